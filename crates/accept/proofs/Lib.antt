@@ -1,0 +1,4 @@
+pub mod Along
+pub mod Rows
+pub mod Sound
+pub mod Fixed

@@ -1,0 +1,4 @@
+pub mod Points
+pub mod Times
+pub mod Cases
+pub mod Fixed

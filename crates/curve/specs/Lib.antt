@@ -1,0 +1,3 @@
+pub mod Curve
+pub mod Cases
+pub mod Promises

@@ -1,0 +1,84 @@
+-- What is promised of the level time and of the time on a grade, for a reader of the definitions.
+use mathlib.Core.Path.{_≡_}
+use mathlib.Core.List.{List, [], _∷_}
+use Prim.Native.Nat.{ℕ, _+_, _-_, _*_, _<_, _≤_}
+use lib.IntN.{ℤ}
+use Rattle.units.specs.declared.Feet.{Feet}
+use Rattle.units.specs.declared.Tenths.{Tenths}
+use Rattle.sheet.specs.declared.Point.{Point}
+use Rattle.sheet.specs.declared.Vehicle.{Vehicle}
+use Rattle.sheet.specs.declared.Vehicle.the-variants.{Car}
+use Rattle.factor.specs.Factor.{climb, factorOf}
+use Rattle.curve.specs.Curve.{levelOf, gradedOf, accelerationOf}
+
+-- r is n over d, taken up: the least whole number that is not below it
+abbrev pub TakenUp : ℕ → ℕ → ℕ → Type 0
+TakenUp n d r = (n ≤ r * d) × (r * d < n + d)
+
+-- from each point to the next the distance rises and the time does not fall
+abbrev pub RisingFrom : Point → List Point → Type 0
+RisingFrom p [] = Unit {0}
+RisingFrom p (q ∷ qs) = (p .feet < q .feet) × (p .tenths ≤ q .tenths) × RisingFrom q qs
+
+abbrev pub Rising : List Point → Type 0
+Rising [] = Unit {0}
+Rising (p ∷ ps) = RisingFrom p ps
+
+-- q is the point after p
+pub data Next (p q : Point) : List Point → Type 0 where
+  here : {ps : List Point} → Next p q (p ∷ q ∷ ps)
+  later : {o : Point} {ps : List Point} → Next p q ps → Next p q (o ∷ ps)
+
+-- r is on the straight line between p and q at d, up to a tenth
+abbrev pub OnTheLine : Point → Point → Feet → ℕ → Type 0
+OnTheLine p q d r =
+    let width = q .feet - p .feet in
+    TakenUp ((q .tenths - p .tenths) * (d .0 - p .feet) + p .tenths * width) width r
+
+-- "The level time lies on the straight line between the two points around the distance, up to a tenth."
+abbrev pub LevelOnTheLine : Type 0
+LevelOnTheLine =
+    (ps : List Point) (p q : Point) (d : Feet) → Rising ps → Next p q ps → p .feet ≤ d .0 → d .0 ≤ q .feet →
+    OnTheLine p q d (levelOf ps d .0)
+
+-- "It is multiplied by the grade factor and taken up again": the exact fraction, rounded once
+abbrev pub GradedTakenUp : Type 0
+GradedTakenUp =
+    (v : Vehicle) (g : ℤ) (d : Feet) (t : Tenths) →
+    let f = factorOf v g d in
+    TakenUp (t .0 * f .over) (f .under) (gradedOf f t .0)
+
+-- "It" is the level time in whole tenths
+abbrev pub AccelerationTakenUp : Type 0
+AccelerationTakenUp =
+    (ps : List Point) (v : Vehicle) (g : ℤ) (d : Feet) →
+    let f = factorOf v g d in
+    TakenUp (levelOf ps d .0 * f .over) (f .under) (accelerationOf ps v g d .0)
+
+-- "The factor is 1 for a car, and for any grade below 10"
+abbrev pub LevelForCars : Type 0
+LevelForCars = (ps : List Point) (g : ℤ) (d : Feet) → accelerationOf ps Car g d ≡ levelOf ps d
+
+abbrev pub LevelBelowTen : Type 0
+LevelBelowTen =
+    (ps : List Point) (v : Vehicle) (g : ℤ) (d : Feet) → climb g < 10 → accelerationOf ps v g d ≡ levelOf ps d
+
+-- every point's time is at most b
+abbrev pub TimesWithin : ℕ → List Point → Type 0
+TimesWithin b [] = Unit {0}
+TimesWithin b (p ∷ ps) = (p .tenths ≤ b) × TimesWithin b ps
+
+-- no level time is longer than every point's
+abbrev pub LevelWithin : Type 0
+LevelWithin = (b : ℕ) (ps : List Point) (d : Feet) → TimesWithin b ps → levelOf ps d .0 ≤ b
+
+-- a grade never makes a vehicle faster, and never takes more than twice the time
+abbrev pub BetweenOnceAndTwice : Type 0
+BetweenOnceAndTwice =
+    (ps : List Point) (v : Vehicle) (g : ℤ) (d : Feet) →
+    (levelOf ps d .0 ≤ accelerationOf ps v g d .0) × (accelerationOf ps v g d .0 ≤ 2 * levelOf ps d .0)
+
+-- "0 to 9999" tenths at a point
+abbrev pub AccelerationWithin : Type 0
+AccelerationWithin =
+    (ps : List Point) (v : Vehicle) (g : ℤ) (d : Feet) → TimesWithin 9999 ps → accelerationOf ps v g d .0 ≤ 19998

@@ -1,0 +1,7 @@
+pub mod Signs
+pub mod Columns
+pub mod Places
+pub mod Bounds
+pub mod Ones
+pub mod Exact
+pub mod Fixed

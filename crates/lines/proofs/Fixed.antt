@@ -1,0 +1,27 @@
+-- The contract of each public function of the crate fixes the reply and asks nothing: it is an equation with a definition. Assumes nothing.
+use mathlib.Core.Path.{sym, _∙_, refl}
+use Rattle.units.specs.Fixed.{Fixes, AsksNothing}
+use Rattle.lines.proofs.worksheet.Kinds as worksheet-kinds
+use Rattle.lines.proofs.worksheet.Reads as worksheet-reads
+use Rattle.lines.proofs.in_order.Kinds as in-order-kinds
+use Rattle.lines.proofs.in_order.Reads as in-order-reads
+use Rattle.lines.proofs.ticks.Kinds as ticks-kinds
+use Rattle.lines.proofs.ticks.Reads as ticks-reads
+
+pub worksheet-fixed : Fixes 0 worksheet-kinds.ps worksheet-kinds.r worksheet-reads.Learnt
+worksheet-fixed κs a z z′ w w′ p q = (p ∙ sym q, refl)
+
+pub worksheet-open : AsksNothing 0 worksheet-kinds.ps worksheet-reads.Asked
+worksheet-open κs a = tt
+
+pub in-order-fixed : Fixes 0 in-order-kinds.ps in-order-kinds.r in-order-reads.Learnt
+in-order-fixed κs a z z′ w w′ p q = (p ∙ sym q, refl)
+
+pub in-order-open : AsksNothing 0 in-order-kinds.ps in-order-reads.Asked
+in-order-open κs a = tt
+
+pub ticks-fixed : Fixes 0 ticks-kinds.ps ticks-kinds.r ticks-reads.Learnt
+ticks-fixed κs a z z′ w w′ p q = (p ∙ sym q, refl)
+
+pub ticks-open : AsksNothing 0 ticks-kinds.ps ticks-reads.Asked
+ticks-open κs a = tt

@@ -1,0 +1,4 @@
+pub mod Bounds
+pub mod Promised
+pub mod Cases
+pub mod Fixed

@@ -1,0 +1,109 @@
+-- "Both sides of each edge": P1 to P10 in one table, each case with what the definitions must give.
+use Prim.Native.Nat.{ℕ}
+use mathlib.Core.Bool.{Bool, true, false}
+use mathlib.Core.List.{List, [], _∷_}
+use lib.Dec.{eqb}
+use lib.IntN.{pos}
+use lib.ListN.{replicate}
+use Rattle.units.specs.Numbers.{both}
+use Rattle.sheet.specs.declared.Sheet.{Sheet}
+use Rattle.sheet.specs.declared.Phase.{Phase}
+use Rattle.sheet.specs.declared.Point.{Point}
+use Rattle.sheet.specs.declared.Vehicle.{Vehicle}
+use Rattle.sheet.specs.declared.Vehicle.the-variants.{Su, Bus, Wb50}
+use Rattle.sheet.specs.Refusals.{isFine, answerNumber, answerLine}
+use Rattle.sheet.specs.Zero.{zeroPhase, zeroPoint}
+use Rattle.accept.specs.Whole.{acceptOf}
+use Rattle.curve.specs.Cases.{GradedCase, rightGraded}
+use Rattle.lines.specs.Worksheet.{worksheetOf, inOrder}
+
+abbrev point : ℕ → ℕ → Point
+point d t = record { feet = d; tenths = t }
+
+abbrev phase : ℕ → ℕ → ℕ → ℕ → ℕ → ℕ → ℕ → ℕ → Phase
+phase n g o y r w c m =
+    record { number = n; green = g; other = o; yellow = y; red = r; walk = w; clearance = c; mode = m }
+
+-- "One sheet, whole", with its second phase, l18, l19, l20, l31 and l47 left open
+unfoldable pub sheetWith : Phase → ℕ → ℕ → ℕ → ℕ → ℕ → Sheet
+sheetWith second l18 l19 l20 l31 l47 =
+    record {
+      issue = 12;
+      vehicle = Wb50;
+      grade = pos 0;
+      l01 = 0;
+      l02 = 2;
+      «phase_count» = 2;
+      phases = phase 2 50 0 40 15 0 0 0 ∷ second ∷ replicate 6 zeroPhase;
+      «track_yellow» = 40;
+      «track_red» = 20;
+      l18 = l18;
+      l19 = l19;
+      l20 = l20;
+      l28 = 40;
+      l30 = 200;
+      l31 = l31;
+      l33 = 270;
+      l37 = 125;
+      l39 = 150;
+      l47 = l47;
+      l56 = 30;
+      l57 = 120;
+      l58 = 40;
+      «point_count» = 3;
+      points = point 0 0 ∷ point 100 140 ∷ point 400 320 ∷ replicate 13 zeroPoint;
+    }
+
+abbrev pub secondPhase : Phase
+secondPhase = phase 4 40 0 35 20 70 100 1
+
+abbrev pub paperSheet : Sheet
+paperSheet = sheetWith secondPhase 60 41 55 10 60
+
+-- a sheet with its 61 lines; a level time on a grade; a sheet with the number and line of its answer
+pub data Case : Type 0 where
+  works : Sheet → List ℕ → Case
+  climbs : Vehicle → ℕ → ℕ → ℕ → ℕ → Case
+  answers : Sheet → ℕ → ℕ → Case
+
+abbrev same : List ℕ → List ℕ → Bool
+same [] [] = true
+same [] (y ∷ ys) = false
+same (x ∷ xs) [] = false
+same (x ∷ xs) (y ∷ ys) = both (eqb x y) (same xs ys)
+
+abbrev pub right : Case → Bool
+right (works s lines) = both (isFine (worksheetOf s .answer)) (same (inOrder (worksheetOf s .lines)) lines)
+right (climbs v d g t r) = rightGraded (record { vehicle = v; distance = d; grade = pos g; level = t; gives = r })
+right (answers s number line) = both (eqb (answerNumber (acceptOf s)) number) (eqb (answerLine (acceptOf s)) line)
+
+unfoldable pub paperCases : List Case
+paperCases =
+    -- P1 "the sheet above"
+    works paperSheet
+    (0 ∷ 2 ∷ 2 ∷ 2 ∷ 50 ∷ 0 ∷ 40 ∷ 15 ∷ 105 ∷ 4 ∷ 70 ∷ 100 ∷ 35 ∷ 20 ∷ 225 ∷ 225 ∷ 227 ∷ 60 ∷ 41 ∷ 55 ∷ 101 ∷ 71 ∷ 96 ∷ 135 ∷ 206 ∷ 227 ∷ 206 ∷ 40 ∷ 473 ∷ 200 ∷ 10 ∷ 210 ∷ 270 ∷ 480 ∷ 0 ∷ 270 ∷ 125 ∷ 338 ∷ 150 ∷ 488 ∷ 2 ∷ 0 ∷ 2 ∷ 486 ∷ 71 ∷ 96 ∷ 60 ∷ 156 ∷ 174 ∷ 245 ∷ 490 ∷ 227 ∷ 71 ∷ 77 ∷ 375 ∷ 30 ∷ 120 ∷ 40 ∷ 48 ∷ 78 ∷ 297 ∷ [])
+    -- P2 "l19=35 needs l31 0 and 36 needs 10"
+    ∷ answers (sheetWith secondPhase 60 35 55 0 60) 0 0
+    ∷ answers (sheetWith secondPhase 60 36 55 9 60) 8 0
+    ∷ answers (sheetWith secondPhase 60 36 55 10 60) 0 0
+    -- P3 "WB-50, 350 ft, grade 40, level 300 gives 417"
+    ∷ climbs Wb50 350 40 300 417
+    -- P4 "340 ft, 40, level 250: factor 1.386, gives 347"
+    ∷ climbs Wb50 340 40 250 347
+    -- P5 "350 ft, 30, level 300: 381"
+    ∷ climbs Wb50 350 30 300 381
+    -- P6 "350 ft, 10, level 200: 215, and grade 9 gives 200"
+    ∷ climbs Wb50 350 10 200 215
+    ∷ climbs Wb50 350 9 200 200
+    -- P7 "bus, 400 ft, 15, level 200: 206"
+    ∷ climbs Bus 400 15 200 206
+    -- P8 "SU, 400 ft, 20, level 200: 200, and 30: 215"
+    ∷ climbs Su 400 20 200 200
+    ∷ climbs Su 400 30 200 215
+    -- P9 "mode 2, yellow 35, red 20: clearance 55 accepted, 54 refused 6"
+    ∷ answers (sheetWith (phase 4 40 0 35 20 70 55 2) 60 41 55 10 60) 0 0
+    ∷ answers (sheetWith (phase 4 40 0 35 20 70 54 2) 60 41 55 10 60) 6 8
+    -- P10 "line 48 of 400 with last point 400 accepted, 401 refused 9"
+    ∷ answers (sheetWith secondPhase 209 41 150 10 209) 0 0
+    ∷ answers (sheetWith secondPhase 210 41 150 10 210) 9 0
+    ∷ []

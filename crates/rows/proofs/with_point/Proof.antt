@@ -1,0 +1,27 @@
+-- `rows::with_point` meets its contract: two stores in order. Assumes nothing.
+use Rattle.rows.proofs.Numbers.{two}
+use borrow.Author.Needs.{needs}
+use Rattle.rows.proofs.with_point.Statement.{statement}
+use Rattle.rows.proofs.with_point.Tie as tie
+
+mul-v : tie.Need-mul-v
+mul-v c = search needs
+
+array-write-v : tie.Need-array-write-v
+array-write-v c = search needs
+
+add-v : tie.Need-add-v
+add-v c = search needs
+
+mul-v-2 : tie.Need-mul-v-2
+mul-v-2 c = search needs
+
+array-write-v-2 : tie.Need-array-write-v-2
+array-write-v-2 c = search needs
+
+returns : tie.Need-returns
+returns c =
+    two (c .args .numbers) (c .args .at) (c .args .p .feet) (c .args .p .tenths)
+
+pub with-point-spec : {M : Type 1} → statement M
+with-point-spec = tie.close (tie.spec mul-v array-write-v add-v mul-v-2 array-write-v-2 returns)

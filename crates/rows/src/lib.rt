@@ -1,0 +1,356 @@
+// The table of lines: what a sheet's text is made of, row by row, and a sheet as its numbers in that order.
+ghost use mathlib.Core.Path.{_≡_};
+ghost use Prim.Native.Nat.{_≤_, _<_, _+_};
+ghost use lib.Seq.{sets};
+ghost use Rattle.sheet.specs.Zero.{zeroPhase, zeroPoint};
+ghost use Rattle.rows.specs.Table.{kindOf, formOf, keyStart, keyEnd, rangesOf, rangeOf, widthOf, placeOf, inRange, inRanges, present};
+ghost use Rattle.rows.specs.Flat.{vehicleNumber, gradeNumber, phaseNumbers, pointNumbers, numbersFrom, flatOf, phaseAt, pointAt, vehicleOf, gradeOf, entriesFrom, sheetOf};
+use sheet::Phase;
+use sheet::Point;
+use sheet::Sheet;
+use sheet::Vehicle;
+
+mod table;
+
+// The kind of a row; 23, no kind, past the last row.
+pub fn kind(row: usize) -> usize
+    ensures { λ r. ⌜ r ≡ kindOf row ⌝ }
+{
+    if 45 <= row {
+        return 23;
+    }
+    table::KINDS[row]
+}
+
+// Where a row's numbers stand.
+pub fn place(row: usize) -> usize
+    ensures { λ r. ⌜ r ≡ placeOf row ⌝ }
+{
+    if 45 <= row {
+        return 118;
+    }
+    table::PLACES[row]
+}
+
+// How many numbers a row has.
+pub fn width(row: usize) -> usize
+    ensures { λ r. ⌜ r ≡ widthOf row ⌝ }
+{
+    if 45 <= row {
+        return 0;
+    }
+    let k = kind(row);
+    table::FIRSTS[k + 1] - table::FIRSTS[k]
+}
+
+// How a row's numbers are written.
+pub fn form(row: usize) -> usize
+    ensures { λ r. ⌜ r ≡ formOf row ⌝ }
+{
+    if 45 <= row {
+        return 0;
+    }
+    table::FORMS[kind(row)]
+}
+
+// All keys after one another, and where the key of a row starts and ends in them.
+pub const KEYS: [u8; 89] = table::KEYS;
+
+pub fn key_start(row: usize) -> usize
+    ensures { λ r. ⌜ r ≡ keyStart row ⌝ }
+{
+    table::STARTS[kind(row)]
+}
+
+pub fn key_end(row: usize) -> usize
+    ensures { λ r. ⌜ r ≡ keyEnd row ⌝ }
+{
+    if 45 <= row {
+        return 89;
+    }
+    table::STARTS[kind(row) + 1]
+}
+
+// x is in the range of number j of a row.
+fn in_range(row: usize, j: usize, x: u32) -> bool
+    requires { ⌜ (row < 45) × (j < widthOf row) ⌝ }
+    ensures { λ r. ⌜ r ≡ inRange (rangeOf row j) x ⌝ }
+{
+    let k = kind(row);
+    let at = table::FIRSTS[k] + j;
+    if table::LEAST[at] <= x {
+        x <= table::MOST[at]
+    } else {
+        false
+    }
+}
+
+// Each number of a row is in its range.
+pub fn in_ranges(numbers: [u32; 118], row: usize) -> bool
+    ensures { λ r. ⌜ r ≡ inRanges numbers (placeOf row) (rangesOf row) ⌝ }
+{
+    if 45 <= row {
+        return true;
+    }
+    let at = place(row);
+    let n = width(row);
+    let mut j: usize = 0;
+    while j < n {
+        if in_range(row, j, numbers[at + j]) {
+            j += 1;
+        } else {
+            return false;
+        }
+    }
+    true
+}
+
+// The sheet's text has this row: all but the phases and points past the counts.
+pub fn present(numbers: [u32; 118], row: usize) -> bool
+    ensures { λ r. ⌜ r ≡ present numbers row ⌝ }
+{
+    if row < 6 {
+        return true;
+    }
+    if row < 14 {
+        return row - 6 < numbers[5] as usize;
+    }
+    if row < 29 {
+        return true;
+    }
+    row - 29 < numbers[85] as usize
+}
+
+fn vehicle_number(vehicle: Vehicle) -> u32
+    ensures { λ r. ⌜ r ≡ vehicleNumber vehicle ⌝ }
+{
+    match vehicle {
+        Vehicle::Car => 0,
+        Vehicle::Su => 1,
+        Vehicle::Bus => 2,
+        Vehicle::Wb50 => 3,
+    }
+}
+
+fn grade_number(grade: i16) -> u32
+    ensures { λ r. ⌜ r ≡ gradeNumber grade ⌝ }
+{
+    let w = grade as i32;
+    if w < 0 {
+        1000000 - (0 - w) as u32
+    } else {
+        1000000 + w as u32
+    }
+}
+
+// A phase's numbers from a place on.
+fn with_phase(numbers: [u32; 118], at: usize, p: Phase) -> [u32; 118]
+    requires { ⌜ at ≤ 110 ⌝ }
+    ensures { λ r. ⌜ r ≡ sets numbers at (phaseNumbers p) ⌝ }
+{
+    let mut v = numbers;
+    v[at] = p.number;
+    v[at + 1] = p.green;
+    v[at + 2] = p.other;
+    v[at + 3] = p.yellow;
+    v[at + 4] = p.red;
+    v[at + 5] = p.walk;
+    v[at + 6] = p.clearance;
+    v[at + 7] = p.mode;
+    v
+}
+
+fn with_point(numbers: [u32; 118], at: usize, p: Point) -> [u32; 118]
+    requires { ⌜ at ≤ 116 ⌝ }
+    ensures { λ r. ⌜ r ≡ sets numbers at (pointNumbers p) ⌝ }
+{
+    let mut v = numbers;
+    v[at] = p.feet;
+    v[at + 1] = p.tenths;
+    v
+}
+
+fn with_phases(numbers: [u32; 118], phases: [Phase; 8]) -> [u32; 118]
+    ensures { λ r. ⌜ r ≡ sets numbers 6 (numbersFrom phaseNumbers zeroPhase 8 0 phases) ⌝ }
+{
+    let mut v = numbers;
+    let mut i: usize = 0;
+    while i < 8 {
+        let p = phases[i];
+        let w = with_phase(v, 6 + 8 * i, p);
+        v = w;
+        i += 1;
+    }
+    v
+}
+
+fn with_points(numbers: [u32; 118], points: [Point; 16]) -> [u32; 118]
+    ensures { λ r. ⌜ r ≡ sets numbers 86 (numbersFrom pointNumbers zeroPoint 16 0 points) ⌝ }
+{
+    let mut v = numbers;
+    let mut i: usize = 0;
+    while i < 16 {
+        let p = points[i];
+        let w = with_point(v, 86 + 2 * i, p);
+        v = w;
+        i += 1;
+    }
+    v
+}
+
+// The sheet's numbers in the rows' order.
+pub fn flat(s: Sheet) -> [u32; 118]
+    ensures { λ r. ⌜ r ≡ flatOf s ⌝ }
+{
+    let vehicle = s.vehicle;
+    let phases = s.phases;
+    let points = s.points;
+    let mut v = [0u32; 118];
+    v[0] = s.issue;
+    v[1] = vehicle_number(vehicle);
+    v[2] = grade_number(s.grade);
+    v[3] = s.l01;
+    v[4] = s.l02;
+    v[5] = s.phase_count;
+    v[70] = s.track_yellow;
+    v[71] = s.track_red;
+    v[72] = s.l18;
+    v[73] = s.l19;
+    v[74] = s.l20;
+    v[75] = s.l28;
+    v[76] = s.l30;
+    v[77] = s.l31;
+    v[78] = s.l33;
+    v[79] = s.l37;
+    v[80] = s.l39;
+    v[81] = s.l47;
+    v[82] = s.l56;
+    v[83] = s.l57;
+    v[84] = s.l58;
+    v[85] = s.point_count;
+    let w = with_phases(v, phases);
+    with_points(w, points)
+}
+
+// The phase and the point of that place in their arrays; past the end, the zero ones.
+pub fn phase_at(numbers: [u32; 118], i: usize) -> Phase
+    ensures { λ r. ⌜ r ≡ phaseAt numbers i ⌝ }
+{
+    if 14 <= i {
+        return sheet::zero_phase();
+    }
+    let at = 6 + 8 * i;
+    Phase {
+        number: numbers[at],
+        green: numbers[at + 1],
+        other: numbers[at + 2],
+        yellow: numbers[at + 3],
+        red: numbers[at + 4],
+        walk: numbers[at + 5],
+        clearance: numbers[at + 6],
+        mode: numbers[at + 7],
+    }
+}
+
+pub fn point_at(numbers: [u32; 118], i: usize) -> Point
+    ensures { λ r. ⌜ r ≡ pointAt numbers i ⌝ }
+{
+    if 16 <= i {
+        return sheet::zero_point();
+    }
+    let at = 86 + 2 * i;
+    Point {
+        feet: numbers[at],
+        tenths: numbers[at + 1],
+    }
+}
+
+fn vehicle_of(x: u32) -> Vehicle
+    ensures { λ r. ⌜ r ≡ vehicleOf x ⌝ }
+{
+    if x == 1 {
+        return Vehicle::Su;
+    }
+    if x == 2 {
+        return Vehicle::Bus;
+    }
+    if x == 3 {
+        return Vehicle::Wb50;
+    }
+    Vehicle::Car
+}
+
+fn grade_of(x: u32) -> i16
+    ensures { λ r. ⌜ r ≡ gradeOf x ⌝ }
+{
+    if x < 1000000 {
+        let down = ((1000000 - x) % 1000) as i16;
+        0 - down
+    } else {
+        ((x - 1000000) % 1000) as i16
+    }
+}
+
+fn phases_of(numbers: [u32; 118]) -> [Phase; 8]
+    ensures { λ r. ⌜ r ≡ entriesFrom (phaseAt numbers) 8 0 ⌝ }
+{
+    let none = sheet::zero_phase();
+    let mut phases = [none; 8];
+    let mut i: usize = 0;
+    while i < 8 {
+        let p = phase_at(numbers, i);
+        phases[i] = p;
+        i += 1;
+    }
+    phases
+}
+
+fn points_of(numbers: [u32; 118]) -> [Point; 16]
+    ensures { λ r. ⌜ r ≡ entriesFrom (pointAt numbers) 16 0 ⌝ }
+{
+    let none = sheet::zero_point();
+    let mut points = [none; 16];
+    let mut i: usize = 0;
+    while i < 16 {
+        let p = point_at(numbers, i);
+        points[i] = p;
+        i += 1;
+    }
+    points
+}
+
+// The sheet of the numbers.
+pub fn sheet_of(numbers: [u32; 118]) -> Sheet
+    ensures { λ r. ⌜ r ≡ sheetOf numbers ⌝ }
+{
+    let vehicle = vehicle_of(numbers[1]);
+    let grade = grade_of(numbers[2]);
+    let phases = phases_of(numbers);
+    let points = points_of(numbers);
+    Sheet {
+        issue: numbers[0],
+        vehicle: vehicle,
+        grade: grade,
+        l01: numbers[3],
+        l02: numbers[4],
+        phase_count: numbers[5],
+        phases: phases,
+        track_yellow: numbers[70],
+        track_red: numbers[71],
+        l18: numbers[72],
+        l19: numbers[73],
+        l20: numbers[74],
+        l28: numbers[75],
+        l30: numbers[76],
+        l31: numbers[77],
+        l33: numbers[78],
+        l37: numbers[79],
+        l39: numbers[80],
+        l47: numbers[81],
+        l56: numbers[82],
+        l57: numbers[83],
+        l58: numbers[84],
+        point_count: numbers[85],
+        points: points,
+    }
+}

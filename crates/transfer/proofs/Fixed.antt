@@ -1,0 +1,27 @@
+-- The contract of each public function of the crate fixes the reply and asks nothing: it is an equation with a definition. Assumes nothing.
+use mathlib.Core.Path.{sym, _∙_, refl}
+use Rattle.units.specs.Fixed.{Fixes, AsksNothing}
+use Rattle.transfer.proofs.time.Kinds as time-kinds
+use Rattle.transfer.proofs.time.Reads as time-reads
+use Rattle.transfer.proofs.worst.Kinds as worst-kinds
+use Rattle.transfer.proofs.worst.Reads as worst-reads
+use Rattle.transfer.proofs.line16.Kinds as line16-kinds
+use Rattle.transfer.proofs.line16.Reads as line16-reads
+
+pub time-fixed : Fixes 0 time-kinds.ps time-kinds.r time-reads.Learnt
+time-fixed κs a z z′ w w′ p q = (p ∙ sym q, refl)
+
+pub time-open : AsksNothing 0 time-kinds.ps time-reads.Asked
+time-open κs a = tt
+
+pub worst-fixed : Fixes 0 worst-kinds.ps worst-kinds.r worst-reads.Learnt
+worst-fixed κs a z z′ w w′ p q = (p ∙ sym q, refl)
+
+pub worst-open : AsksNothing 0 worst-kinds.ps worst-reads.Asked
+worst-open κs a = tt
+
+pub line16-fixed : Fixes 0 line16-kinds.ps line16-kinds.r line16-reads.Learnt
+line16-fixed κs a z z′ w w′ p q = (p ∙ sym q, refl)
+
+pub line16-open : AsksNothing 0 line16-kinds.ps line16-reads.Asked
+line16-open κs a = tt

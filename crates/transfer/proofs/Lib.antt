@@ -1,0 +1,3 @@
+pub mod Along
+pub mod Promised
+pub mod Fixed
