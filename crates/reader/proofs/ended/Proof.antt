@@ -1,0 +1,50 @@
+-- `reader::ended` meets its contract: a line feed, or a bad line. Assumes nothing.
+use borrow.Author.Needs.{needs}
+use mathlib.Core.Path.{sym, _∙_, refl}
+use Rattle.units.proofs.Steps.{pick-yes, pick-not}
+use Rattle.reader.proofs.ended.Statement.{statement}
+use Rattle.reader.proofs.ended.Tie as tie
+
+slice-aggregate-after : tie.Need-slice-aggregate-after
+slice-aggregate-after c = search needs
+
+after-requires : tie.Need-after-requires
+after-requires c κs = search needs
+
+enum-told : tie.Need-enum-told
+enum-told c = search needs
+
+so-far-requires : tie.Need-so-far-requires
+so-far-requires c κs = search needs
+
+enum-known-q : tie.Need-enum-known-q
+enum-known-q c = search needs
+
+so-far-requires-2 : tie.Need-so-far-requires-2
+so-far-requires-2 c κs = search needs
+
+returns : tie.Need-returns
+returns c =
+    pick-yes _ _ _ _ (c .before .before .before .before .before .before .if1 .taken) (rw (sym (c .before .before .before .after .ensures) ∙ c .before .enum-told .given .1) (c .so-far .ensures))
+
+returns-2 : tie.Need-returns-2
+returns-2 c =
+    pick-yes _ _ _ _ (c .before .before .before .before .before .before .before .if1 .taken) (rw (sym (c .before .before .before .before .after .ensures) ∙ c .before .before .q .given .1) (c .so-far2 .ensures))
+
+returns-3 : tie.Need-returns-3
+returns-3 c =
+    pick-not _ _ _ _ (c .if1 .left) refl
+
+pub ended-spec : {M : Type 1} → statement M
+ended-spec =
+    tie.close
+    (tie.spec
+    slice-aggregate-after
+    after-requires
+    enum-told
+    so-far-requires
+    enum-known-q
+    so-far-requires-2
+    returns
+    returns-2
+    returns-3)

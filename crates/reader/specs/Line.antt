@@ -1,0 +1,68 @@
+-- A line of the text: its key, its numbers in the form that the table has for it, and a line feed.
+use Prim.Native.Nat.{ℕ, zero, suc, _+_, _-_}
+use mathlib.Core.List.{List}
+use mathlib.Core.Bool.{Bool, true, false}
+use lib.ListN.{set}
+use lib.Dec.{ltb, eqb}
+use Rattle.units.specs.Numbers.{pick}
+use Rattle.rows.specs.Table.{worded, signed, keyOf, formOf, placeOf, widthOf}
+use Rattle.rows.specs.Marks.{markOf, minus, lineFeed, wordOf}
+use Rattle.reader.specs.declared.Figure.{Figure}
+use Rattle.reader.specs.declared.Figure.the-variants.{Bad, Is}
+use Rattle.reader.specs.declared.Place.{Place}
+use Rattle.reader.specs.declared.Place.the-variants.{Nowhere, At}
+use Rattle.reader.specs.declared.Taken.{Taken}
+use Rattle.reader.specs.Figures.{numberAt, afterAt}
+
+-- what follows where a word or a number was found, and what follows where not
+abbrev pub onPlace : {A : Type 0} → Place → (ℕ → A) → A → A
+onPlace (At p) f d = f p
+onPlace Nowhere f d = d
+
+abbrev pub onFigure : {A : Type 0} → Figure → (ℕ → ℕ → A) → A → A
+onFigure (Is v p) f d = f v p
+onFigure Bad f d = d
+
+-- the number x where its word stands, else what the other words give
+abbrev pub namedAt : List ℕ → ℕ → ℕ → Figure → Figure
+namedAt s at x other = onPlace (afterAt s at (wordOf x)) (λ p. Is x p) other
+
+-- "car, su, bus, wb50"; "Another vehicle word is refused 1"
+unfoldable pub wordAt : List ℕ → ℕ → Figure
+wordAt s at = namedAt s at 0 (namedAt s at 1 (namedAt s at 2 (namedAt s at 3 Bad)))
+
+-- "only `grade` may carry `-`, and `-0` is malformed". It is kept as 1,000,000 more than it is
+unfoldable pub signedAt : List ℕ → ℕ → Figure
+signedAt s at =
+    onPlace (afterAt s at minus)
+    (λ p. onFigure (numberAt s p) (λ v q. pick (ltb v 1) Bad (Is (1000000 - v) q)) Bad)
+    (onFigure (numberAt s at) (λ v q. Is (1000000 + v) q) Bad)
+
+unfoldable pub fieldAt : List ℕ → ℕ → ℕ → Figure
+fieldAt s at form = pick (eqb form worded) (wordAt s at) (pick (eqb form signed) (signedAt s at) (numberAt s at))
+
+-- what was read of a line: whether it is well made, the place past it, and the numbers with its own stored
+abbrev pub soFar : Bool → ℕ → List ℕ → Taken
+soFar good next v = record { good = good; next = next; numbers = v }
+
+abbrev pub bad : List ℕ → Taken
+bad v = soFar false 0 v
+
+abbrev pub good : ℕ → List ℕ → Taken
+good p v = soFar true p v
+
+-- n numbers of that form from number j of a line on, each after its mark, stored in v from `place` on
+unfoldable pub fields : List ℕ → ℕ → ℕ → ℕ → ℕ → ℕ → List ℕ → Taken
+fields s form place zero j p v = good p v
+fields s form place (suc n) j p v =
+    onPlace (afterAt s p (markOf j))
+    (λ q. onFigure (fieldAt s q form) (λ x t. fields s form place n (j + 1) t (set v (place + j) x)) (bad v))
+    (bad v)
+
+-- "each ended by a line feed"
+abbrev pub ended : List ℕ → Taken → Taken
+ended s t = pick (t .good) (onPlace (afterAt s (t .next) lineFeed) (λ q. good q (t .numbers)) (bad (t .numbers))) t
+
+unfoldable pub lineAt : List ℕ → ℕ → ℕ → List ℕ → Taken
+lineAt s at row v =
+    onPlace (afterAt s at (keyOf row)) (λ p. ended s (fields s (formOf row) (placeOf row) (widthOf row) 0 p v)) (bad v)

@@ -1,0 +1,354 @@
+// Reads a site sheet from its text.
+ghost use mathlib.Core.Path.{_≡_};
+ghost use Prim.Native.Nat.{_+_, _≤_, _<_};
+ghost use Rattle.rows.specs.Table.{keyOf};
+ghost use Rattle.rows.specs.Marks.{markOf};
+ghost use Rattle.reader.specs.Figures.{digitOf, numberAt, afterAt};
+ghost use Rattle.reader.specs.Line.{onPlace, wordAt, signedAt, fieldAt, soFar, fields, ended, lineAt};
+ghost use Rattle.reader.specs.Read.{judgedAt, endAt, linesOf, reply, readOf};
+ghost use Rattle.reader.specs.declared.Figure.the-variants.{Is};
+use sheet::Answer;
+use sheet::Refusal;
+use sheet::Sheet;
+
+// A number found in the text, and the place past it.
+pub enum Figure {
+    Bad,
+    Is(u32, usize),
+}
+
+// The place past a word found in the text.
+pub enum Place {
+    Nowhere,
+    At(usize),
+}
+
+// What was read of a line: whether it is well made, the place past it, and the numbers with its own stored.
+pub struct Taken {
+    pub good: bool,
+    pub next: usize,
+    pub numbers: [u32; 118],
+}
+
+// The answer so far, the place past what was read, and the numbers.
+pub struct Step {
+    pub answer: Answer,
+    pub next: usize,
+    pub numbers: [u32; 118],
+}
+
+// The answer to a text, and its sheet, which is the zero sheet where the answer is a refusal.
+pub struct Reading {
+    pub answer: Answer,
+    pub sheet: Sheet,
+}
+
+// The value of a digit's byte, 10 for any other byte.
+fn digit(b: u8) -> u32
+    ensures { λ r. ⌜ r ≡ digitOf b ⌝ }
+{
+    if b < 48 {
+        return 10;
+    }
+    if 57 < b {
+        return 10;
+    }
+    (b - 48) as u32
+}
+
+// The number that starts at a place of the text.
+pub fn number(s: &[u8], at: usize) -> Figure
+    ensures { λ r. ⌜ r ≡ numberAt (now (s .entry)) at ⌝ }
+{
+    if s.len() <= at {
+        return Figure::Bad;
+    }
+    let first = digit(s[at]);
+    if 9 < first {
+        return Figure::Bad;
+    }
+    let mut v = first;
+    let mut i = at + 1;
+    while i < s.len() {
+        let d = digit(s[i]);
+        if 9 < d {
+            return Figure::Is(v, i);
+        }
+        if v == 0 {
+            return Figure::Bad;
+        }
+        if 99999 < v {
+            return Figure::Bad;
+        }
+        v = v * 10 + d;
+        i = i + 1;
+    }
+    Figure::Is(v, i)
+}
+
+// The place past a word that stands at a place of the text.
+pub fn after(s: &[u8], at: usize, w: &[u8]) -> Place
+    ensures { λ r. ⌜ r ≡ afterAt (now (s .entry)) at (now (w .entry)) ⌝ }
+{
+    let mut i: usize = 0;
+    let mut p = at;
+    while i < w.len() {
+        if s.len() <= p {
+            return Place::Nowhere;
+        }
+        if s[p] != w[i] {
+            return Place::Nowhere;
+        }
+        i = i + 1;
+        p = p + 1;
+    }
+    Place::At(p)
+}
+
+// The number x where the word w stands at a place, and what the other words gave elsewhere.
+fn named(s: &[u8], at: usize, w: &[u8], x: u32, other: Figure) -> Figure
+    ensures { λ r. ⌜ r ≡ onPlace (afterAt (now (s .entry)) at (now (w .entry))) (λ p. Is x p) other ⌝ }
+{
+    match after(s, at, w) {
+        Place::At(p) => Figure::Is(x, p),
+        Place::Nowhere => other,
+    }
+}
+
+// A vehicle's word, by its number.
+fn word(s: &[u8], at: usize) -> Figure
+    ensures { λ r. ⌜ r ≡ wordAt (now (s .entry)) at ⌝ }
+{
+    let d = named(s, at, b"wb50", 3, Figure::Bad);
+    let c = named(s, at, b"bus", 2, d);
+    let b = named(s, at, b"su", 1, c);
+    named(s, at, b"car", 0, b)
+}
+
+// A number that may carry a minus, as 1,000,000 more than it is.
+fn signed(s: &[u8], at: usize) -> Figure
+    ensures { λ r. ⌜ r ≡ signedAt (now (s .entry)) at ⌝ }
+{
+    match after(s, at, b"-") {
+        Place::Nowhere => match number(s, at) {
+            Figure::Bad => Figure::Bad,
+            Figure::Is(v, q) => Figure::Is(1000000 + v, q),
+        },
+        Place::At(p) => match number(s, p) {
+            Figure::Bad => Figure::Bad,
+            Figure::Is(v, q) => {
+                if v < 1 {
+                    Figure::Bad
+                } else {
+                    Figure::Is(1000000 - v, q)
+                }
+            }
+        },
+    }
+}
+
+fn field(s: &[u8], at: usize, form: usize) -> Figure
+    ensures { λ r. ⌜ r ≡ fieldAt (now (s .entry)) at form ⌝ }
+{
+    if form == 1 {
+        return word(s, at);
+    }
+    if form == 2 {
+        return signed(s, at);
+    }
+    number(s, at)
+}
+
+// What stands before number j of a line.
+fn mark(s: &[u8], at: usize, j: usize) -> Place
+    ensures { λ r. ⌜ r ≡ afterAt (now (s .entry)) at (markOf j) ⌝ }
+{
+    if j < 1 {
+        after(s, at, b"=")
+    } else {
+        after(s, at, b",")
+    }
+}
+
+fn key(s: &[u8], at: usize, row: usize) -> Place
+    ensures { λ r. ⌜ r ≡ afterAt (now (s .entry)) at (keyOf row) ⌝ }
+{
+    let keys = rows::KEYS;
+    let start = rows::key_start(row);
+    let end = rows::key_end(row);
+    after(s, at, &keys[start..end])
+}
+
+fn so_far(good: bool, next: usize, numbers: [u32; 118]) -> Taken
+    ensures { λ r. ⌜ r ≡ soFar good next numbers ⌝ }
+{
+    Taken {
+        good: good,
+        next: next,
+        numbers: numbers,
+    }
+}
+
+// n numbers of a line, stored from a place on.
+fn fields(s: &[u8], at: usize, form: usize, place: usize, n: usize, numbers: [u32; 118]) -> Taken
+    requires { ⌜ place + n ≤ 118 ⌝ }
+    ensures { λ r. ⌜ r ≡ fields (now (s .entry)) form place n 0 at numbers ⌝ }
+{
+    let mut v = numbers;
+    let mut p = at;
+    let mut j: usize = 0;
+    while j < n {
+        match mark(s, p, j) {
+            Place::Nowhere => {
+                return so_far(false, 0, v);
+            }
+            Place::At(q) => match field(s, q, form) {
+                Figure::Bad => {
+                    return so_far(false, 0, v);
+                }
+                Figure::Is(x, t) => {
+                    let e = place + j;
+                    v[e] = x;
+                    p = t;
+                }
+            },
+        }
+        j = j + 1;
+    }
+    so_far(true, p, v)
+}
+
+// What was read of a line, once its line feed is seen.
+fn ended(s: &[u8], taken: Taken) -> Taken
+    ensures { λ r. ⌜ r ≡ ended (now (s .entry)) taken ⌝ }
+{
+    if taken.good {
+        let at = taken.next;
+        let v = taken.numbers;
+        match after(s, at, b"\n") {
+            Place::Nowhere => so_far(false, 0, v),
+            Place::At(q) => so_far(true, q, v),
+        }
+    } else {
+        taken
+    }
+}
+
+// The line of a row at a place of the text.
+fn line(s: &[u8], at: usize, row: usize, numbers: [u32; 118]) -> Taken
+    requires { ⌜ row < 45 ⌝ }
+    ensures { λ r. ⌜ r ≡ lineAt (now (s .entry)) at row numbers ⌝ }
+{
+    let form = rows::form(row);
+    let place = rows::place(row);
+    let n = rows::width(row);
+    match key(s, at, row) {
+        Place::Nowhere => so_far(false, 0, numbers),
+        Place::At(p) => {
+            let taken = fields(s, p, form, place, n, numbers);
+            ended(s, taken)
+        }
+    }
+}
+
+// The same with its fault, by its line number.
+fn judged(s: &[u8], at: usize, row: usize, number: u32, numbers: [u32; 118]) -> Step
+    requires { ⌜ row < 45 ⌝ }
+    ensures { λ r. ⌜ r ≡ judgedAt (now (s .entry)) at row number numbers ⌝ }
+{
+    let taken = line(s, at, row, numbers);
+    let v = taken.numbers;
+    if taken.good {
+        let answer = accept::row_fault(v, row, number);
+        Step {
+            answer: answer,
+            next: taken.next,
+            numbers: v,
+        }
+    } else {
+        Step {
+            answer: Answer::Refused(Refusal::Malformed, number),
+            next: 0,
+            numbers: v,
+        }
+    }
+}
+
+// After the last line nothing stands.
+fn end(s: &[u8], number: u32, at: usize, numbers: [u32; 118]) -> Step
+    ensures { λ r. ⌜ r ≡ endAt (now (s .entry)) number at numbers ⌝ }
+{
+    if at == s.len() {
+        Step {
+            answer: Answer::Fine,
+            next: at,
+            numbers: numbers,
+        }
+    } else {
+        Step {
+            answer: Answer::Refused(Refusal::Malformed, number),
+            next: 0,
+            numbers: numbers,
+        }
+    }
+}
+
+// All lines of the text.
+fn lines(s: &[u8]) -> Step
+    ensures { λ r. ⌜ r ≡ linesOf (now (s .entry)) ⌝ }
+{
+    let mut v = [0u32; 118];
+    let mut at: usize = 0;
+    let mut number: u32 = 1;
+    let mut row: usize = 0;
+    while row < 45 {
+        if rows::present(v, row) {
+            let taken = judged(s, at, row, number, v);
+            let answer = taken.answer;
+            if sheet::is_fine(answer) {
+                let w = taken.numbers;
+                v = w;
+                at = taken.next;
+                number += 1;
+                row += 1;
+            } else {
+                return taken;
+            }
+        } else {
+            row += 1;
+        }
+    }
+    end(s, number, at, v)
+}
+
+// A refusal comes with the zero sheet.
+fn reply(answer: Answer, s: Sheet) -> Reading
+    ensures { λ r. ⌜ r ≡ reply answer s ⌝ }
+{
+    if sheet::is_fine(answer) {
+        Reading {
+            answer: answer,
+            sheet: s,
+        }
+    } else {
+        let zero = sheet::zero_sheet();
+        Reading {
+            answer: answer,
+            sheet: zero,
+        }
+    }
+}
+
+// Reads a site sheet: refusals 1 to 6 line by line, then 7 to 10 on the whole.
+pub fn read(text: &[u8]) -> Reading
+    ensures { λ r. ⌜ r ≡ readOf (now (text .entry)) ⌝ }
+{
+    let found = lines(text);
+    let answer = found.answer;
+    let numbers = found.numbers;
+    let s = rows::sheet_of(numbers);
+    if sheet::is_fine(answer) {
+        return reply(accept::whole_fault(s), s);
+    }
+    reply(answer, s)
+}

@@ -1,0 +1,10 @@
+pub mod Cuts
+pub mod Figures
+pub mod Fields
+pub mod Agree
+pub mod Back
+pub mod Forth
+pub mod Kept
+pub mod Trimmed
+pub mod Promised
+pub mod Prefix

@@ -1,0 +1,197 @@
+// Writes a site sheet as its text.
+ghost use mathlib.Core.Path.{_≡_};
+ghost use mathlib.Core.List.{[], _∷_};
+ghost use Prim.Native.Nat.{_+_, _≤_, _<_};
+ghost use lib.ListN.{length};
+ghost use Rattle.rows.specs.Table.{keyOf};
+ghost use Rattle.rows.specs.Marks.{markOf, wordOf};
+ghost use Rattle.writer.specs.Digits.{digits};
+ghost use Rattle.writer.specs.Text.{signedText, fieldText, fieldsText, rowText, textFrom};
+ghost use Rattle.writer.specs.Write.{Put, writtenOf, bytesOf};
+use sheet::Answer;
+use sheet::Refusal;
+use sheet::Sheet;
+
+// The answer to writing a sheet, and the text's length, which is 0 where the answer is a refusal.
+pub struct Written {
+    pub answer: Answer,
+    pub length: usize,
+}
+
+// One byte at a place, where the output reaches it. What is past the output's end is only counted.
+fn put(out: &mut [u8], at: usize, x: u8) -> usize
+    requires { ⌜ at ≤ 10000 ⌝ }
+    ensures { λ r. ⌜ Put (now (out .entry)) (now (out .exit)) at r (x ∷ []) ⌝ }
+{
+    if at < out.len() {
+        out[at] = x;
+        return at + 1;
+    }
+    at + 1
+}
+
+fn put_word(out: &mut [u8], at: usize, w: &[u8]) -> usize
+    requires { ⌜ at + length (now w) ≤ 10000 ⌝ }
+    ensures { λ r. ⌜ Put (now (out .entry)) (now (out .exit)) at r (now (w .entry)) ⌝ }
+{
+    let mut p = at;
+    let mut i: usize = 0;
+    while i < w.len() {
+        let x = w[i];
+        p = put(out, p, x);
+        i = i + 1;
+    }
+    p
+}
+
+// The digits of a number.
+fn put_number(out: &mut [u8], at: usize, v: u32) -> usize
+    requires { ⌜ (at ≤ 9990) × (v < 1000000) ⌝ }
+    ensures { λ r. ⌜ Put (now (out .entry)) (now (out .exit)) at r (digits v) ⌝ }
+{
+    if v < 10 {
+        put(out, at, (48 + v % 10) as u8)
+    } else {
+        let p = put_number(out, at, v / 10);
+        put(out, p, (48 + v % 10) as u8)
+    }
+}
+
+// A vehicle's word; none of what is no vehicle.
+fn put_vehicle(out: &mut [u8], at: usize, x: u32) -> usize
+    requires { ⌜ at ≤ 9990 ⌝ }
+    ensures { λ r. ⌜ Put (now (out .entry)) (now (out .exit)) at r (wordOf x) ⌝ }
+{
+    match x {
+        0 => put_word(out, at, b"car"),
+        1 => put_word(out, at, b"su"),
+        2 => put_word(out, at, b"bus"),
+        3 => put_word(out, at, b"wb50"),
+        _ => at,
+    }
+}
+
+// A number that is kept as 1,000,000 more than it is.
+fn put_signed(out: &mut [u8], at: usize, x: u32) -> usize
+    requires { ⌜ at ≤ 9980 ⌝ }
+    ensures { λ r. ⌜ Put (now (out .entry)) (now (out .exit)) at r (signedText x) ⌝ }
+{
+    if x < 1000000 {
+        let p = put(out, at, 45);
+        put_number(out, p, (1000000 - x) % 1000000)
+    } else {
+        put_number(out, at, (x - 1000000) % 1000000)
+    }
+}
+
+fn put_field(out: &mut [u8], at: usize, form: usize, x: u32) -> usize
+    requires { ⌜ at ≤ 9980 ⌝ }
+    ensures { λ r. ⌜ Put (now (out .entry)) (now (out .exit)) at r (fieldText form x) ⌝ }
+{
+    match form {
+        1 => put_vehicle(out, at, x),
+        2 => put_signed(out, at, x),
+        _ => put_number(out, at, x % 1000000),
+    }
+}
+
+// What stands before number j of a line.
+fn put_mark(out: &mut [u8], at: usize, j: usize) -> usize
+    requires { ⌜ at ≤ 10000 ⌝ }
+    ensures { λ r. ⌜ Put (now (out .entry)) (now (out .exit)) at r (markOf j) ⌝ }
+{
+    if j < 1 {
+        put(out, at, 61)
+    } else {
+        put(out, at, 44)
+    }
+}
+
+fn put_key(out: &mut [u8], at: usize, row: usize) -> usize
+    requires { ⌜ at ≤ 9900 ⌝ }
+    ensures { λ r. ⌜ Put (now (out .entry)) (now (out .exit)) at r (keyOf row) ⌝ }
+{
+    let keys = rows::KEYS;
+    let start = rows::key_start(row);
+    let end = rows::key_end(row);
+    put_word(out, at, &keys[start..end])
+}
+
+// n numbers of a line, which stand from a place on.
+fn put_fields(
+    out: &mut [u8],
+    at: usize,
+    form: usize,
+    place: usize,
+    n: usize,
+    numbers: [u32; 118],
+) -> usize
+    requires { ⌜ (place + n ≤ 118) × (at ≤ 9000) ⌝ }
+    ensures { λ r. ⌜ Put (now (out .entry)) (now (out .exit)) at r (fieldsText form place n 0 numbers) ⌝ }
+{
+    let mut p = at;
+    let mut j: usize = 0;
+    while j < n {
+        let x = numbers[place + j];
+        let q = put_mark(out, p, j);
+        p = put_field(out, q, form, x);
+        j = j + 1;
+    }
+    p
+}
+
+// The line of a row.
+fn put_line(out: &mut [u8], at: usize, row: usize, numbers: [u32; 118]) -> usize
+    requires { ⌜ (row < 45) × (at ≤ 8000) ⌝ }
+    ensures { λ r. ⌜ Put (now (out .entry)) (now (out .exit)) at r (rowText row numbers) ⌝ }
+{
+    let form = rows::form(row);
+    let place = rows::place(row);
+    let n = rows::width(row);
+    let p = put_key(out, at, row);
+    let q = put_fields(out, p, form, place, n, numbers);
+    put(out, q, 10)
+}
+
+// All lines.
+fn put_lines(out: &mut [u8], numbers: [u32; 118]) -> usize
+    ensures { λ r. ⌜ Put (now (out .entry)) (now (out .exit)) 0 r (textFrom numbers 45 0) ⌝ }
+{
+    let mut p: usize = 0;
+    let mut row: usize = 0;
+    while row < 45 {
+        if rows::present(numbers, row) {
+            p = put_line(out, p, row, numbers);
+            row += 1;
+        } else {
+            row += 1;
+        }
+    }
+    p
+}
+
+// Writes a site sheet. A run over none of the output tells the text's length, so that a refusal writes no byte.
+pub fn write(sheet: Sheet, out: &mut [u8]) -> Written
+    ensures { λ r. ⌜ (r ≡ writtenOf sheet (length (now (out .entry)))) × (now (out .exit) ≡ bytesOf sheet (now (out .entry))) ⌝ }
+{
+    let answer = accept::accept(sheet);
+    if sheet::is_fine(answer) {
+        let numbers = rows::flat(sheet);
+        let needed = put_lines(&mut out[0..0], numbers);
+        if out.len() < needed {
+            return Written {
+                answer: Answer::Refused(Refusal::NoRoom, 0),
+                length: 0,
+            };
+        }
+        let length = put_lines(out, numbers);
+        return Written {
+            answer: Answer::Fine,
+            length: length,
+        };
+    }
+    Written {
+        answer: answer,
+        length: 0,
+    }
+}
