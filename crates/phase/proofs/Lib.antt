@@ -1,0 +1,4 @@
+pub mod Fit
+pub mod Fixed
+pub mod Left
+pub mod Rest

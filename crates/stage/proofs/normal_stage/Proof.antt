@@ -1,0 +1,101 @@
+-- `stage::normal_stage` meets its contract, arm by arm. Assumes nothing.
+use Rattle.stage.specs.Shown.{normalStage}
+use Rattle.units.proofs.Steps.{steps, arm}
+use borrow.Author.Needs.{needs}
+use Rattle.stage.proofs.normal_stage.Statement.{statement}
+use Rattle.stage.proofs.normal_stage.Tie as tie
+
+enum-told : tie.Need-enum-told
+enum-told c = search needs
+
+enum-told-2 : tie.Need-enum-told-2
+enum-told-2 c = search needs
+
+enum-told-3 : tie.Need-enum-told-3
+enum-told-3 c = search needs
+
+enum-told-4 : tie.Need-enum-told-4
+enum-told-4 c = search needs
+
+enum-told-5 : tie.Need-enum-told-5
+enum-told-5 c = search needs
+
+enum-told-6 : tie.Need-enum-told-6
+enum-told-6 c = search needs
+
+enum-told-7 : tie.Need-enum-told-7
+enum-told-7 c = search needs
+
+enum-told-8 : tie.Need-enum-told-8
+enum-told-8 c = search needs
+
+enum-told-9 : tie.Need-enum-told-9
+enum-told-9 c = search needs
+
+returns : tie.Need-returns
+unfolding normalStage
+returns c =
+    search (arm normalStage, steps)
+
+returns-2 : tie.Need-returns-2
+unfolding normalStage
+returns-2 c =
+    search (arm normalStage, steps)
+
+returns-3 : tie.Need-returns-3
+unfolding normalStage
+returns-3 c =
+    search (arm normalStage, steps)
+
+returns-4 : tie.Need-returns-4
+unfolding normalStage
+returns-4 c =
+    search (arm normalStage, steps)
+
+returns-5 : tie.Need-returns-5
+unfolding normalStage
+returns-5 c =
+    search (arm normalStage, steps)
+
+returns-6 : tie.Need-returns-6
+unfolding normalStage
+returns-6 c =
+    search (arm normalStage, steps)
+
+returns-7 : tie.Need-returns-7
+unfolding normalStage
+returns-7 c =
+    search (arm normalStage, steps)
+
+returns-8 : tie.Need-returns-8
+unfolding normalStage
+returns-8 c =
+    search (arm normalStage, steps)
+
+returns-9 : tie.Need-returns-9
+unfolding normalStage
+returns-9 c =
+    search (arm normalStage, steps)
+
+pub normal-stage-spec : {M : Type 1} → statement M
+normal-stage-spec =
+    tie.close
+    (tie.spec
+    enum-told
+    enum-told-2
+    enum-told-3
+    enum-told-4
+    enum-told-5
+    enum-told-6
+    enum-told-7
+    enum-told-8
+    enum-told-9
+    returns
+    returns-2
+    returns-3
+    returns-4
+    returns-5
+    returns-6
+    returns-7
+    returns-8
+    returns-9)

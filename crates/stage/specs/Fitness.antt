@@ -1,0 +1,29 @@
+-- Refusal 20, of the stage: "a phase not listed, a next phase neither listed nor 0, a time above its length".
+use Prim.Native.Nat.{ℕ}
+use mathlib.Core.Bool.{Bool, true}
+use lib.Dec.{leb}
+use Rattle.units.specs.Numbers.{both}
+use Rattle.sheet.specs.declared.Sheet.{Sheet}
+use Rattle.phase.specs.declared.Light.{Light}
+use Rattle.phase.specs.declared.Light.the-variants.{Green}
+use Rattle.phase.specs.declared.Walker.{Walker}
+use Rattle.phase.specs.declared.Walker.the-variants.{Walk}
+use Rattle.phase.specs.Times.{lightFits, walkerFits}
+use Rattle.stage.specs.declared.Lengths.{Lengths}
+use Rattle.stage.specs.declared.Stage.{Stage}
+use Rattle.stage.specs.declared.Stage.the-variants.{TrackGreen, TrackYellow, TrackRed, Open, Ending, ClearanceGreen, ClearanceYellow, ClearanceRed, Dwell}
+use Rattle.stage.specs.Listed.{listed, phaseOf, nextFits}
+
+unfoldable pub phaseFits : Sheet → ℕ → Light → Walker → Bool
+phaseFits s n l w = both (listed s n) (both (lightFits (phaseOf s n) l) (walkerFits (phaseOf s n) w))
+
+unfoldable pub stageFits : Lengths → Sheet → Stage → Bool
+stageFits t s TrackGreen = true
+stageFits t s (TrackYellow n k) = both (nextFits s n) (leb k (s .«track_yellow»))
+stageFits t s (TrackRed n k) = both (nextFits s n) (leb k (s .«track_red»))
+stageFits t s (Open n g w) = phaseFits s n (Green g) (Walk w)
+stageFits t s (Ending n m l w) = both (nextFits s m) (phaseFits s n l w)
+stageFits t s (ClearanceGreen k) = leb k (t .l51)
+stageFits t s (ClearanceYellow k) = leb k (s .«track_yellow»)
+stageFits t s (ClearanceRed k) = leb k (s .«track_red»)
+stageFits t s Dwell = true

@@ -1,0 +1,27 @@
+-- The contracts of `start`, `tick` and `load` fix the reply and ask nothing: each is an equation with a definition. Assumes nothing.
+use mathlib.Core.Path.{sym, _∙_, refl}
+use Rattle.units.specs.Fixed.{Fixes, AsksNothing}
+use Rattle.unit.proofs.start.Kinds as start-kinds
+use Rattle.unit.proofs.start.Reads as start-reads
+use Rattle.unit.proofs.Unit.tick.Kinds as tick-kinds
+use Rattle.unit.proofs.Unit.tick.Reads as tick-reads
+use Rattle.unit.proofs.Unit.load.Kinds as load-kinds
+use Rattle.unit.proofs.Unit.load.Reads as load-reads
+
+pub start-fixed : Fixes 0 start-kinds.ps start-kinds.r start-reads.Learnt
+start-fixed κs a z z′ w w′ p q = (p ∙ sym q, refl)
+
+pub start-open : AsksNothing 0 start-kinds.ps start-reads.Asked
+start-open κs a = tt
+
+pub tick-fixed : Fixes 0 tick-kinds.ps tick-kinds.r tick-reads.Learnt
+tick-fixed κs a z z′ w w′ p q = (p ∙ sym q, refl)
+
+pub tick-open : AsksNothing 0 tick-kinds.ps tick-reads.Asked
+tick-open κs a = tt
+
+pub load-fixed : Fixes 0 load-kinds.ps load-kinds.r load-reads.Learnt
+load-fixed κs a z z′ w w′ p q = (p ∙ sym q, refl)
+
+pub load-open : AsksNothing 0 load-kinds.ps load-reads.Asked
+load-open κs a = tt

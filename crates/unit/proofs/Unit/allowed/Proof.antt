@@ -1,0 +1,29 @@
+-- `unit::Unit::allowed` meets its contract, arm by arm. Assumes nothing.
+use Rattle.unit.specs.Commands.{allowed}
+use Rattle.units.proofs.Steps.{steps, arm2}
+use borrow.Author.Needs.{needs}
+use Rattle.unit.proofs.Unit.allowed.Statement.{statement}
+use Rattle.unit.proofs.Unit.allowed.Tie as tie
+
+enum-told : tie.Need-enum-told
+enum-told c = search needs
+
+enum-known-command : tie.Need-enum-known-command
+enum-known-command c = search needs
+
+allowed-at-requires : tie.Need-allowed-at-requires
+allowed-at-requires c κs = search needs
+
+returns : tie.Need-returns
+unfolding allowed
+returns c =
+    search (arm2 allowed, steps)
+
+returns-2 : tie.Need-returns-2
+unfolding allowed
+returns-2 c =
+    search (arm2 allowed, steps)
+
+pub allowed-spec : {M : Type 1} → statement M
+allowed-spec =
+    tie.close (tie.spec enum-told enum-known-command allowed-at-requires returns returns-2)

@@ -1,0 +1,17 @@
+-- `unit::Unit::load` meets its contract: a composition of calls, each replaced by what it ensures. Assumes nothing.
+use borrow.Author.Needs.{needs}
+use Rattle.unit.proofs.Unit.load.Statement.{statement}
+use Rattle.unit.proofs.Unit.load.Tie as tie
+
+load-answer-requires : tie.Need-load-answer-requires
+load-answer-requires c κs = search needs
+
+loaded-requires : tie.Need-loaded-requires
+loaded-requires c κs = search needs
+
+returns : tie.Need-returns
+returns c =
+    cc
+
+pub load-spec : {M : Type 1} → statement M
+load-spec = tie.close (tie.spec load-answer-requires loaded-requires returns)
