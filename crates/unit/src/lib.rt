@@ -30,22 +30,25 @@ pub struct Ticked {
     pub answer: Answer,
 }
 
-fn lengths(sheet: Sheet) -> Lengths
-    ensures { λ r. ⌜ r ≡ lengthsOf sheet ⌝ }
-{
-    let worked = lines::worksheet(sheet);
-    Lengths {
-        l03: lines::ticks(worked.lines.l03),
-        l51: lines::ticks(worked.lines.l51),
-    }
+// What the worksheet of the sheet says to a unit that holds it: worked out once for all of a tick or a load.
+pub struct Measured {
+    pub accepted: bool,
+    pub lengths: Lengths,
 }
 
-fn accepted(sheet: Sheet) -> bool
-    ensures { λ r. ⌜ r ≡ accepted sheet ⌝ }
+fn measure(sheet: Sheet) -> Measured
+    ensures { λ r. ⌜ (r .accepted ≡ accepted sheet) × (r .lengths ≡ lengthsOf sheet) ⌝ }
 {
     let worked = lines::worksheet(sheet);
     let answer = worked.answer;
-    sheet::is_fine(answer)
+    let t = Lengths {
+        l03: lines::ticks(worked.lines.l03),
+        l51: lines::ticks(worked.lines.l51),
+    };
+    Measured {
+        accepted: sheet::is_fine(answer),
+        lengths: t,
+    }
 }
 
 fn fresh(sheet: Sheet) -> Unit

@@ -1,5 +1,6 @@
 // One tick of the unit, in its three steps, and the loader.
 ghost use mathlib.Core.Path.{_≡_};
+ghost use Rattle.units.specs.Numbers.{both};
 ghost use Rattle.stage.specs.Commands.{ended};
 ghost use Rattle.unit.specs.Settling.{at};
 ghost use Rattle.unit.specs.Commands.{allowed, heard, obeyed, commandAnswer};
@@ -141,16 +142,19 @@ impl Unit {
         }
     }
 
+    fn fits_with(self, accepted: bool, t: Lengths) -> bool
+        ensures { λ r. ⌜ r ≡ both accepted (fitsIn t self) ⌝ }
+    {
+        if accepted { self.fits_in(t) } else { false }
+    }
+
     fn fits(self) -> bool
         ensures { λ r. ⌜ r ≡ fits self ⌝ }
     {
         let sheet = self.sheet;
-        let t = super::lengths(sheet);
-        if super::accepted(sheet) {
-            self.fits_in(t)
-        } else {
-            false
-        }
+        let m = super::measure(sheet);
+        let t = m.lengths;
+        self.fits_with(m.accepted, t)
     }
 
     fn after_times(self, t: Lengths, call: bool) -> Unit
@@ -192,8 +196,9 @@ impl Unit {
         ensures { λ r. ⌜ r ≡ tickOf self command call ⌝ }
     {
         let sheet = self.sheet;
-        let t = super::lengths(sheet);
-        if self.fits() {
+        let m = super::measure(sheet);
+        let t = m.lengths;
+        if self.fits_with(m.accepted, t) {
             self.ticked(t, command, call)
         } else {
             let answer = Answer::Refused(Refusal::UnitUnfit, 0);

@@ -1,29 +1,21 @@
--- `unit::Unit::fits` meets its contract, branch by branch. Assumes nothing.
-use Rattle.unit.specs.Unit.{fits}
-use Rattle.units.proofs.Steps.{steps}
+-- `unit::Unit::fits` meets its contract: what the worksheet says, tested. Assumes nothing.
+use mathlib.Core.Path.{_∙_}
+use Rattle.units.specs.Numbers.{both}
+use Rattle.unit.specs.Unit.{fitsIn, fits}
 use borrow.Author.Needs.{needs}
 use Rattle.unit.proofs.Unit.fits.Statement.{statement}
 use Rattle.unit.proofs.Unit.fits.Tie as tie
 
-lengths-requires : tie.Need-lengths-requires
-lengths-requires c κs = search needs
+measure-requires : tie.Need-measure-requires
+measure-requires c κs = search needs
 
-accepted-requires : tie.Need-accepted-requires
-accepted-requires c κs = search needs
-
-fits-in-requires : tie.Need-fits-in-requires
-fits-in-requires c κs = search needs
+fits-with-requires : tie.Need-fits-with-requires
+fits-with-requires c κs = search needs
 
 returns : tie.Need-returns
 unfolding fits
 returns c =
-    rw (← c .before .before .before .lengths .ensures) (search steps)
-
-returns-2 : tie.Need-returns-2
-unfolding fits
-returns-2 c =
-    rw (← c .before .before .lengths .ensures) (search steps)
+    c .fits-with .ensures ∙ λ i. both (c .before .before .measure .ensures .0 i) (fitsIn (c .before .before .measure .ensures .1 i) (c .before .before .before .before .args .self))
 
 pub fits-spec : {M : Type 1} → statement M
-fits-spec =
-    tie.close (tie.spec lengths-requires accepted-requires fits-in-requires returns returns-2)
+fits-spec = tie.close (tie.spec measure-requires fits-with-requires returns)

@@ -1,0 +1,25 @@
+-- `unit::measure` meets its contract: a composition of calls, each replaced by what it ensures. Assumes nothing.
+use borrow.Author.Needs.{needs}
+use Rattle.unit.proofs.measure.Statement.{statement}
+use Rattle.unit.proofs.measure.Tie as tie
+
+worksheet-requires : tie.Need-worksheet-requires
+worksheet-requires c κs = search needs
+
+ticks-requires : tie.Need-ticks-requires
+ticks-requires c κs = search needs
+
+ticks-requires-2 : tie.Need-ticks-requires-2
+ticks-requires-2 c κs = search needs
+
+is-fine-requires : tie.Need-is-fine-requires
+is-fine-requires c κs = search needs
+
+returns : tie.Need-returns
+returns c =
+    (cc, cc)
+
+pub measure-spec : {M : Type 1} → statement M
+measure-spec =
+    tie.close
+    (tie.spec worksheet-requires ticks-requires ticks-requires-2 is-fine-requires returns)
