@@ -1,11 +1,12 @@
 -- The code's table, by columns, is the printed one; no column falls, no entry is below 1 or above 2: each by one computed test over all of it. Assumes nothing.
-use mathlib.Core.Path.{_≡_, refl, sym}
+use mathlib.Core.Path.{_≡_, refl, sym, _∙_}
 use mathlib.Core.Bool.{Bool}
 use mathlib.Core.List.{List, [], _∷_}
 use Prim.Native.Nat.{ℕ, zero, suc, _<_, _≤_}
 use native.Mathlib.Nat.{le-trans}
+use native.Mathlib.Omega.{arith}
 use lib.Dec.{T, eqb, leb, eqb→eq, leb→le}
-use lib.ListN.{getD, length, List·getD-eq-default}
+use lib.ListN.{getD, length, replicate, List·getD-eq-default}
 use Rattle.units.proofs.Tested.{allBelow, at, all, entry}
 use Rattle.factor.specs.Table.{table, entryOf}
 use Rattle.factor.specs.Promises.{TableIsPrinted, NoColumnFalls, NoEntryBelowOne}
@@ -35,6 +36,10 @@ printed c r hc hr =
     eqb→eq (getD (getD columns c []) r 0) (entryOf r c)
     (somewhere (λ (k : ℕ) (n : ℕ). eqb (getD (getD columns k []) n 0) (entryOf n k)) 16 tt c r hc hr)
 
+-- one column of it
+pub is-column : (k : ℕ) → k < 14 → (col : ℕ) → col ≡ k → (r : ℕ) → r < 16 → getD (getD columns k []) r 0 ≡ entryOf r col
+is-column k h col e r hr = rw e (printed k r h hr)
+
 pub rises : NoColumnFalls
 unfolding entryOf table
 rises c r hc hr =
@@ -63,6 +68,12 @@ pub outside-column : (r c : ℕ) → 14 ≤ c → 0 ≡ entryOf r c
 unfolding entryOf table
 outside-column r c h =
     sym (List·getD-eq-default (getD table r []) 0 (le-trans (leb→le (length (getD table r [])) 14 (entry short-row table [] tt tt r)) h))
+
+pub above : (k n : ℕ) → k ≤ n → (n ≡ k → ⊥) → suc k ≤ n
+above k n h e = omega arith
+
+pub no-column : (col : ℕ) → 14 ≤ col → (r : ℕ) → r < 16 → getD (replicate 16 0) r 0 ≡ entryOf r col
+no-column col h r hr = eqb→eq (getD (replicate 16 0) r 0) 0 (at (λ (n : ℕ). eqb (getD (replicate 16 0) n 0) 0) 16 tt r hr) ∙ outside-column r col h
 
 pub outside-row : (r c : ℕ) → 16 ≤ r → 0 ≡ entryOf r c
 unfolding entryOf table

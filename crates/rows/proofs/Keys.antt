@@ -1,39 +1,64 @@
--- The keys and the forms of the code's tables are the printed ones: one computed test for each. Assumes nothing.
-use mathlib.Core.Path.{_≡_, refl, ap}
+-- The code's rules for keys and forms are the printed ones: one computed test for each. Assumes nothing.
+use mathlib.Core.Path.{_≡_, refl, ap, sym}
 use mathlib.Core.Bool.{Bool, true, false}
 use mathlib.Core.List.{List, [], _∷_}
-use Prim.Native.Nat.{ℕ, suc, _+_, _-_, _<_, _≤_}
+use Prim.Native.Nat.{ℕ, suc, _+_, _-_, _*_, _<_, _≤_}
 use native.Mathlib.Omega.{arith}
 use lib.Dec.{T, eqb, leb, ltb, eqb→eq, leb→le}
 use lib.ListN.{getD, take, drop}
 use borrow.Author.Tests.{ltb-true, ltb-false}
+use Rattle.units.specs.Numbers.{pick}
 use Rattle.units.proofs.Steps.{split}
 use Rattle.units.proofs.Tested.{also, also-left, also-right, at}
-use Rattle.rows.specs.Table.{bytes, kinds, none, kindOf, formOf, keyOf, startOf, keyStart, keyEnd}
-use Rattle.rows.proofs.Tables.{kind-few, kind-past}
+use Rattle.rows.specs.Table.{bytes, kinds, none, rows, kindOf, formOf, keyOf, startOf, keyStart, keyEnd}
+use Rattle.rows.proofs.Tables.{ruled, kind-few, kind-past}
 
-unfoldable pub startTable : List ℕ
-startTable = 0 ∷ 5 ∷ 12 ∷ 17 ∷ 20 ∷ 23 ∷ 29 ∷ 34 ∷ 39 ∷ 42 ∷ 45 ∷ 48 ∷ 51 ∷ 54 ∷ 57 ∷ 60 ∷ 63 ∷ 66 ∷ 69 ∷ 72 ∷ 75 ∷ 78 ∷ 84 ∷ 89 ∷ []
+unfoldable pub starts : List ℕ
+starts = 0 ∷ 5 ∷ 12 ∷ 17 ∷ 20 ∷ 23 ∷ []
 
-unfoldable pub formTable : List ℕ
-formTable = 0 ∷ 1 ∷ 2 ∷ 0 ∷ 0 ∷ 0 ∷ 0 ∷ 0 ∷ 0 ∷ 0 ∷ 0 ∷ 0 ∷ 0 ∷ 0 ∷ 0 ∷ 0 ∷ 0 ∷ 0 ∷ 0 ∷ 0 ∷ 0 ∷ 0 ∷ 0 ∷ []
+unfoldable pub ends : List ℕ
+ends = 5 ∷ 12 ∷ 17 ∷ 20 ∷ 23 ∷ 29 ∷ []
 
 unfoldable pub keyBytes : List ℕ
 keyBytes = bytes "issuevehiclegradel01l02phasesphasetrackl18l19l20l28l30l31l33l37l39l47l56l57l58pointspoint"
 
-pub form-tied : (row : ℕ) → row < 45 → getD formTable (kindOf row) 0 ≡ formOf row
-unfolding formTable formOf kinds
-form-tied row h =
-    eqb→eq (getD formTable (kindOf row) 0) (getD kinds (kindOf row) none .form)
-    (at (λ (k : ℕ). eqb (getD formTable k 0) (getD kinds k none .form)) 23 tt (kindOf row) (kind-few row h))
+-- ---- the code's rules, in the order of its tests
+
+unfoldable pub formRule : ℕ → ℕ
+formRule row = pick (eqb row 1) 1 (pick (eqb row 2) 2 0)
+
+unfoldable pub startRule : ℕ → ℕ
+startRule row =
+    pick (ltb row 6) (getD starts row 0)
+    (pick (ltb row 14) 29 (pick (ltb row 15) 34 (pick (ltb row 29) (3 * row - 6) 84)))
+
+unfoldable pub endRule : ℕ → ℕ
+endRule row =
+    pick (ltb row 6) (getD ends row 0) (pick (ltb row 14) 34 (pick (ltb row 28) (3 * row - 3) (pick (ltb row 29) 84 89)))
+
+pub form-ruled : {x : ℕ} (row : ℕ) → row < 45 → x ≡ formRule row → x ≡ formOf row
+unfolding formRule formOf kindOf kinds rows pick
+form-ruled row h e = ruled formRule formOf tt row h e
 
 pub form-past : (row : ℕ) → 45 ≤ row → formOf row ≡ 0
 unfolding formOf kinds
 form-past row h = ap (λ (k : ℕ). getD kinds k none .form) (kind-past row h)
 
-pub start-tied : (k : ℕ) → k < 24 → getD startTable k 0 ≡ startOf k
-unfolding startTable startOf kinds bytes
-start-tied k h = eqb→eq (getD startTable k 0) (startOf k) (at (λ (n : ℕ). eqb (getD startTable n 0) (startOf n)) 24 tt k h)
+pub form-plain : (row : ℕ) → 0 ≡ formRule row → 0 ≡ formOf row
+form-plain row e =
+    split (ltb row 45) (λ t. form-ruled row (ltb-true row 45 t) e) (λ t. sym (form-past row (ltb-false row 45 t)))
+
+pub start-ruled : {x : ℕ} (row : ℕ) → row < 45 → x ≡ startRule row → x ≡ keyStart row
+unfolding startRule starts startOf kindOf kinds rows bytes pick
+start-ruled row h e = ruled startRule keyStart tt row h e
+
+pub end-ruled : {x : ℕ} (row : ℕ) → row < 45 → x ≡ endRule row → x ≡ keyEnd row
+unfolding endRule ends startOf kindOf kinds rows bytes pick
+end-ruled row h e = ruled endRule keyEnd tt row h e
+
+pub start-past : (row : ℕ) → 45 ≤ row → keyStart row ≡ 89
+unfolding startOf kinds bytes
+start-past row h = ap startOf (kind-past row h)
 
 pub kind-any : (row : ℕ) → kindOf row < 24
 kind-any row =
@@ -58,6 +83,10 @@ same-eq (x ∷ xs) (y ∷ ys) t =
 pub end-past : (row : ℕ) → 45 ≤ row → keyEnd row ≡ 89
 unfolding startOf kinds bytes
 end-past row h = ap (λ (k : ℕ). startOf (k + 1)) (kind-past row h)
+
+pub end-last : (row : ℕ) → 89 ≡ endRule row → 89 ≡ keyEnd row
+end-last row e =
+    split (ltb row 45) (λ t. end-ruled row (ltb-true row 45 t) e) (λ t. sym (end-past row (ltb-false row 45 t)))
 
 -- the part of all keys that is the key of a kind; past the last kind it is empty
 pub start-end : (row : ℕ) → keyStart row ≤ keyEnd row

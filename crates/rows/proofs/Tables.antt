@@ -1,34 +1,72 @@
--- The code's tables are the printed one: one computed test for each, and the bounds that their indices need. Assumes nothing.
-use mathlib.Core.Path.{_≡_, refl, ap}
+-- The code's rules by the number of a row are the printed table: one computed test for each. Assumes nothing.
+use mathlib.Core.Path.{_≡_, refl, ap, _∙_}
 use mathlib.Core.Bool.{Bool}
 use mathlib.Core.List.{List, [], _∷_}
-use Prim.Native.Nat.{ℕ, zero, suc, _+_, _-_, _<_, _≤_}
+use Prim.Native.Nat.{ℕ, zero, suc, _+_, _-_, _*_, _<_, _≤_}
 use native.Mathlib.Omega.{arith}
 use lib.Dec.{T, eqb, leb, ltb, eqb→eq, leb→le, ltb→lt, lt→ltb}
 use lib.ListN.{getD, length, List·getD-eq-default}
-use Rattle.units.proofs.Tested.{given, given-then, allBelow, at}
-use Rattle.rows.specs.Table.{Range, _to_, kinds, rows, none, kindOf, rangesOf, widthOf, placeOf}
+use Rattle.units.specs.Numbers.{pick}
+use Rattle.units.proofs.Tested.{given, given-then, allBelow, at, all, entry}
+use Rattle.rows.specs.Table.{Range, _to_, kinds, rows, none, kindOf, rangesOf, rangeOf, widthOf, placeOf}
 
-unfoldable pub kindTable : List ℕ
-kindTable = 0 ∷ 1 ∷ 2 ∷ 3 ∷ 4 ∷ 5 ∷ 6 ∷ 6 ∷ 6 ∷ 6 ∷ 6 ∷ 6 ∷ 6 ∷ 6 ∷ 7 ∷ 8 ∷ 9 ∷ 10 ∷ 11 ∷ 12 ∷ 13 ∷ 14 ∷ 15 ∷ 16 ∷ 17 ∷ 18 ∷ 19 ∷ 20 ∷ 21 ∷ 22 ∷ 22 ∷ 22 ∷ 22 ∷ 22 ∷ 22 ∷ 22 ∷ 22 ∷ 22 ∷ 22 ∷ 22 ∷ 22 ∷ 22 ∷ 22 ∷ 22 ∷ 22 ∷ []
+unfoldable pub leastFirst : List ℕ
+leastFirst = 1 ∷ 0 ∷ 999920 ∷ 0 ∷ 1 ∷ 1 ∷ []
 
-unfoldable pub placeTable : List ℕ
-placeTable = 0 ∷ 1 ∷ 2 ∷ 3 ∷ 4 ∷ 5 ∷ 6 ∷ 14 ∷ 22 ∷ 30 ∷ 38 ∷ 46 ∷ 54 ∷ 62 ∷ 70 ∷ 72 ∷ 73 ∷ 74 ∷ 75 ∷ 76 ∷ 77 ∷ 78 ∷ 79 ∷ 80 ∷ 81 ∷ 82 ∷ 83 ∷ 84 ∷ 85 ∷ 86 ∷ 88 ∷ 90 ∷ 92 ∷ 94 ∷ 96 ∷ 98 ∷ 100 ∷ 102 ∷ 104 ∷ 106 ∷ 108 ∷ 110 ∷ 112 ∷ 114 ∷ 116 ∷ []
+unfoldable pub mostFirst : List ℕ
+mostFirst = 65535 ∷ 3 ∷ 1000080 ∷ 999 ∷ 999 ∷ 8 ∷ []
 
-unfoldable pub firstTable : List ℕ
-firstTable = 0 ∷ 1 ∷ 2 ∷ 3 ∷ 4 ∷ 5 ∷ 6 ∷ 14 ∷ 16 ∷ 17 ∷ 18 ∷ 19 ∷ 20 ∷ 21 ∷ 22 ∷ 23 ∷ 24 ∷ 25 ∷ 26 ∷ 27 ∷ 28 ∷ 29 ∷ 30 ∷ 32 ∷ []
+unfoldable pub leastSingle : List ℕ
+leastSingle = 0 ∷ 1 ∷ 1 ∷ 0 ∷ 200 ∷ 0 ∷ 0 ∷ 100 ∷ 0 ∷ 0 ∷ 30 ∷ 1 ∷ 0 ∷ 2 ∷ []
 
-unfoldable pub leastTable : List ℕ
-leastTable = 1 ∷ 0 ∷ 999920 ∷ 0 ∷ 1 ∷ 1 ∷ 1 ∷ 0 ∷ 0 ∷ 30 ∷ 0 ∷ 0 ∷ 0 ∷ 0 ∷ 30 ∷ 0 ∷ 0 ∷ 1 ∷ 1 ∷ 0 ∷ 200 ∷ 0 ∷ 0 ∷ 100 ∷ 0 ∷ 0 ∷ 30 ∷ 1 ∷ 0 ∷ 2 ∷ 0 ∷ 0 ∷ []
+unfoldable pub mostSingle : List ℕ
+mostSingle = 400 ∷ 400 ∷ 150 ∷ 999 ∷ 999 ∷ 999 ∷ 999 ∷ 999 ∷ 999 ∷ 400 ∷ 999 ∷ 999 ∷ 100 ∷ 16 ∷ []
 
-unfoldable pub mostTable : List ℕ
-mostTable = 65535 ∷ 3 ∷ 1000080 ∷ 999 ∷ 999 ∷ 8 ∷ 8 ∷ 999 ∷ 999 ∷ 60 ∷ 60 ∷ 999 ∷ 999 ∷ 2 ∷ 60 ∷ 60 ∷ 400 ∷ 400 ∷ 150 ∷ 999 ∷ 999 ∷ 999 ∷ 999 ∷ 999 ∷ 999 ∷ 400 ∷ 999 ∷ 999 ∷ 100 ∷ 16 ∷ 400 ∷ 9999 ∷ []
+-- every entry of a list is below m, and so is what stands past it
+pub below : (m : ℕ) (xs : List ℕ) → T (all (λ (n : ℕ). ltb n m) xs) → T (ltb 0 m) → (k : ℕ) → getD xs k 0 < m
+below m xs t u k = ltb→lt (getD xs k 0) m (entry (λ (n : ℕ). ltb n m) xs 0 t u k)
+
+-- ---- the code's rules, in the order of its tests
+
+unfoldable pub kindRule : ℕ → ℕ
+kindRule row = pick (ltb row 6) row (pick (ltb row 14) 6 (pick (ltb row 29) (row - 7) 22))
+
+unfoldable pub placeRule : ℕ → ℕ
+placeRule row = pick (ltb row 6) row (pick (ltb row 15) (8 * row - 42) (pick (ltb row 29) (row + 57) (2 * row + 28)))
+
+unfoldable pub widthRule : ℕ → ℕ
+widthRule row = pick (ltb row 6) 1 (pick (ltb row 14) 8 (pick (ltb row 15) 2 (pick (ltb row 29) 1 2)))
+
+-- of a phase, and of a point
+unfoldable pub phaseMost : ℕ → ℕ
+phaseMost j = pick (eqb j 0) 8 (pick (ltb j 3) 999 (pick (ltb j 5) 60 (pick (ltb j 7) 999 2)))
+
+unfoldable pub pointMost : ℕ → ℕ
+pointMost j = pick (eqb j 0) 400 9999
+
+unfoldable pub leastRule : ℕ → ℕ → ℕ
+leastRule row j =
+    pick (ltb row 6) (getD leastFirst row 0)
+    (pick (ltb row 14) (pick (eqb j 0) 1 (pick (eqb j 3) 30 0))
+    (pick (ltb row 15) (pick (eqb j 0) 30 0)
+    (pick (ltb row 29) (getD leastSingle (row - 15) 0) 0)))
+
+unfoldable pub mostRule : ℕ → ℕ → ℕ
+mostRule row j =
+    pick (ltb row 6) (getD mostFirst row 0)
+    (pick (ltb row 14) (phaseMost j)
+    (pick (ltb row 15) 60
+    (pick (ltb row 29) (getD mostSingle (row - 15) 0) (pointMost j))))
 
 -- ---- rows
 
-pub kind-tied : (row : ℕ) → row < 45 → getD kindTable row 0 ≡ kindOf row
-unfolding kindTable kindOf rows
-kind-tied row h = eqb→eq (getD kindTable row 0) (kindOf row) (at (λ (r : ℕ). eqb (getD kindTable r 0) (kindOf r)) 45 tt row h)
+-- what a rule gives is what the table has, by one computed test of every row
+pub ruled : (f g : ℕ → ℕ) → T (allBelow (λ (r : ℕ). eqb (f r) (g r)) 45) → {x : ℕ} (row : ℕ) → row < 45 → x ≡ f row → x ≡ g row
+ruled f g t row h e = e ∙ eqb→eq (f row) (g row) (at (λ (r : ℕ). eqb (f r) (g r)) 45 t row h)
+
+pub kind-ruled : {x : ℕ} (row : ℕ) → row < 45 → x ≡ kindRule row → x ≡ kindOf row
+unfolding kindRule kindOf rows pick
+kind-ruled row h e = ruled kindRule kindOf tt row h e
 
 pub kind-few : (row : ℕ) → row < 45 → kindOf row < 23
 unfolding kindOf rows
@@ -46,9 +84,13 @@ pub width-past : (row : ℕ) → 45 ≤ row → widthOf row ≡ 0
 unfolding widthOf
 width-past row h = ap length (ranges-past row h)
 
-pub place-tied : (row : ℕ) → row < 45 → getD placeTable row 0 ≡ placeOf row
-unfolding placeTable placeOf widthOf rangesOf kindOf kinds rows
-place-tied row h = eqb→eq (getD placeTable row 0) (placeOf row) (at (λ (r : ℕ). eqb (getD placeTable r 0) (placeOf r)) 45 tt row h)
+pub width-ruled : {x : ℕ} (row : ℕ) → row < 45 → x ≡ widthRule row → x ≡ widthOf row
+unfolding widthRule widthOf rangesOf kindOf kinds rows pick
+width-ruled row h e = ruled widthRule widthOf tt row h e
+
+pub place-ruled : {x : ℕ} (row : ℕ) → row < 45 → x ≡ placeRule row → x ≡ placeOf row
+unfolding placeRule placeOf widthOf rangesOf kindOf kinds rows pick
+place-ruled row h e = ruled placeRule placeOf tt row h e
 
 pub place-room : (row : ℕ) → row < 45 → placeOf row + widthOf row ≤ 118
 unfolding placeOf widthOf rangesOf kindOf kinds rows
@@ -73,20 +115,6 @@ place-past row h = let e : row ≡ row - 45 + 45 = omega arith in rw e (past-by 
 abbrev pub kindRanges : ℕ → List Range
 kindRanges k = getD kinds k none .ranges
 
-pub width-tied : (k : ℕ) → k < 23 → getD firstTable (k + 1) 0 - getD firstTable k 0 ≡ length (kindRanges k)
-unfolding firstTable kinds
-width-tied k h =
-    eqb→eq (getD firstTable (k + 1) 0 - getD firstTable k 0) (length (kindRanges k))
-    (at (λ (n : ℕ). eqb (getD firstTable (n + 1) 0 - getD firstTable n 0) (length (kindRanges n))) 23 tt k h)
-
-pub firsts-rise : (k : ℕ) → k < 23 → getD firstTable k 0 ≤ getD firstTable (k + 1) 0
-unfolding firstTable
-firsts-rise k h = leb→le (getD firstTable k 0) (getD firstTable (k + 1) 0) (at (λ (n : ℕ). leb (getD firstTable n 0) (getD firstTable (n + 1) 0)) 23 tt k h)
-
-pub firsts-end : (k : ℕ) → k < 23 → getD firstTable (k + 1) 0 ≤ 32
-unfolding firstTable
-firsts-end k h = leb→le (getD firstTable (k + 1) 0) 32 (at (λ (n : ℕ). leb (getD firstTable (n + 1) 0) 32) 23 tt k h)
-
 -- a test of each number of each kind; no kind has more than 8
 pub for-each : (test : ℕ → ℕ → Bool) → T (allBelow (λ (k : ℕ). allBelow (λ (j : ℕ). given (ltb j (length (kindRanges k))) (test k j)) 8) 23) → (k j : ℕ) → k < 23 → j < length (kindRanges k) → T (test k j)
 unfolding kinds
@@ -102,14 +130,24 @@ for-each test t k j hk hj =
 abbrev pub rangeAt : ℕ → ℕ → Range
 rangeAt k j = getD (kindRanges k) j (0 to 0)
 
-pub least-tied : (k j : ℕ) → k < 23 → j < length (kindRanges k) → getD leastTable (getD firstTable k 0 + j) 0 ≡ rangeAt k j .least
-unfolding firstTable leastTable kinds
-least-tied k j hk hj =
-    eqb→eq (getD leastTable (getD firstTable k 0 + j) 0) (rangeAt k j .least)
-    (for-each (λ (n i : ℕ). eqb (getD leastTable (getD firstTable n 0 + i) 0) (rangeAt n i .least)) tt k j hk hj)
+-- the same of each number of each row
+for-row : (test : ℕ → ℕ → Bool) → T (allBelow (λ (r : ℕ). allBelow (λ (j : ℕ). given (ltb j (widthOf r)) (test r j)) 8) 45) → (row j : ℕ) → row < 45 → j < widthOf row → T (test row j)
+unfolding widthOf rangesOf kindOf kinds rows
+for-row test t row j h hj =
+    let few : widthOf row ≤ 8 = leb→le (widthOf row) 8 (at (λ (r : ℕ). leb (widthOf r) 8) 45 tt row h) in
+    given-then (ltb j (widthOf row)) (test row j)
+    (at (λ (i : ℕ). given (ltb i (widthOf row)) (test row i)) 8
+    (at (λ (r : ℕ). allBelow (λ (i : ℕ). given (ltb i (widthOf r)) (test r i)) 8) 45 t row h)
+    j
+    (omega arith))
+    (lt→ltb j (widthOf row) hj)
 
-pub most-tied : (k j : ℕ) → k < 23 → j < length (kindRanges k) → getD mostTable (getD firstTable k 0 + j) 0 ≡ rangeAt k j .most
-unfolding firstTable mostTable kinds
-most-tied k j hk hj =
-    eqb→eq (getD mostTable (getD firstTable k 0 + j) 0) (rangeAt k j .most)
-    (for-each (λ (n i : ℕ). eqb (getD mostTable (getD firstTable n 0 + i) 0) (rangeAt n i .most)) tt k j hk hj)
+pub least-ruled : {x : ℕ} (row j : ℕ) → row < 45 → j < widthOf row → x ≡ leastRule row j → x ≡ rangeOf row j .least
+unfolding leastRule leastFirst leastSingle widthOf rangesOf kindOf kinds rows pick
+least-ruled row j h hj e =
+    e ∙ eqb→eq (leastRule row j) (rangeOf row j .least) (for-row (λ (r i : ℕ). eqb (leastRule r i) (rangeOf r i .least)) tt row j h hj)
+
+pub most-ruled : {x : ℕ} (row j : ℕ) → row < 45 → j < widthOf row → x ≡ mostRule row j → x ≡ rangeOf row j .most
+unfolding mostRule phaseMost pointMost mostFirst mostSingle widthOf rangesOf kindOf kinds rows pick
+most-ruled row j h hj e =
+    e ∙ eqb→eq (mostRule row j) (rangeOf row j .most) (for-row (λ (r i : ℕ). eqb (mostRule r i) (rangeOf r i .most)) tt row j h hj)

@@ -16,41 +16,73 @@ mod table;
 pub fn kind(row: usize) -> usize
     ensures { λ r. ⌜ r ≡ kindOf row ⌝ }
 {
-    if 45 <= row {
-        return 23;
+    if row < 6 {
+        return row;
     }
-    table::KINDS[row]
+    if row < 14 {
+        return 6;
+    }
+    if row < 29 {
+        return row - 7;
+    }
+    if row < 45 {
+        return 22;
+    }
+    23
 }
 
 // Where a row's numbers stand.
 pub fn place(row: usize) -> usize
     ensures { λ r. ⌜ r ≡ placeOf row ⌝ }
 {
-    if 45 <= row {
-        return 118;
+    if row < 6 {
+        return row;
     }
-    table::PLACES[row]
+    if row < 15 {
+        return 8 * row - 42;
+    }
+    if row < 29 {
+        return row + 57;
+    }
+    if row < 45 {
+        return 2 * row + 28;
+    }
+    118
 }
 
 // How many numbers a row has.
 pub fn width(row: usize) -> usize
     ensures { λ r. ⌜ r ≡ widthOf row ⌝ }
 {
-    if 45 <= row {
-        return 0;
+    if row < 6 {
+        return 1;
     }
-    let k = kind(row);
-    table::FIRSTS[k + 1] - table::FIRSTS[k]
+    if row < 14 {
+        return 8;
+    }
+    if row < 15 {
+        return 2;
+    }
+    if row < 29 {
+        return 1;
+    }
+    if row < 45 {
+        return 2;
+    }
+    0
 }
 
 // How a row's numbers are written.
 pub fn form(row: usize) -> usize
     ensures { λ r. ⌜ r ≡ formOf row ⌝ }
 {
-    if 45 <= row {
-        return 0;
+    if row == 1 {
+        return 1;
     }
-    table::FORMS[kind(row)]
+    if row == 2 {
+        return 2;
+    }
+    0
 }
 
 // All keys after one another, and where the key of a row starts and ends in them.
@@ -59,16 +91,104 @@ pub const KEYS: [u8; 89] = table::KEYS;
 pub fn key_start(row: usize) -> usize
     ensures { λ r. ⌜ r ≡ keyStart row ⌝ }
 {
-    table::STARTS[kind(row)]
+    if row < 6 {
+        return table::STARTS[row] as usize;
+    }
+    if row < 14 {
+        return 29;
+    }
+    if row < 15 {
+        return 34;
+    }
+    if row < 29 {
+        return 3 * row - 6;
+    }
+    if row < 45 {
+        return 84;
+    }
+    89
 }
 
 pub fn key_end(row: usize) -> usize
     ensures { λ r. ⌜ r ≡ keyEnd row ⌝ }
 {
-    if 45 <= row {
-        return 89;
+    if row < 6 {
+        return table::ENDS[row] as usize;
     }
-    table::STARTS[kind(row) + 1]
+    if row < 14 {
+        return 34;
+    }
+    if row < 28 {
+        return 3 * row - 3;
+    }
+    if row < 29 {
+        return 84;
+    }
+    89
+}
+
+// The least of number j of a row.
+fn least(row: usize, j: usize) -> u32
+    requires { ⌜ (row < 45) × (j < widthOf row) ⌝ }
+    ensures { λ r. ⌜ r ≡ rangeOf row j .least ⌝ }
+{
+    if row < 6 {
+        return table::LEAST_FIRST[row];
+    }
+    if row < 14 {
+        if j == 0 {
+            return 1;
+        }
+        if j == 3 {
+            return 30;
+        }
+        return 0;
+    }
+    if row < 15 {
+        if j == 0 {
+            return 30;
+        }
+        return 0;
+    }
+    if row < 29 {
+        return table::LEAST_SINGLE[row - 15] as u32;
+    }
+    0
+}
+
+// The most of it.
+fn most(row: usize, j: usize) -> u32
+    requires { ⌜ (row < 45) × (j < widthOf row) ⌝ }
+    ensures { λ r. ⌜ r ≡ rangeOf row j .most ⌝ }
+{
+    if row < 6 {
+        return table::MOST_FIRST[row];
+    }
+    if row < 14 {
+        if j == 0 {
+            return 8;
+        }
+        if j < 3 {
+            return 999;
+        }
+        if j < 5 {
+            return 60;
+        }
+        if j < 7 {
+            return 999;
+        }
+        return 2;
+    }
+    if row < 15 {
+        return 60;
+    }
+    if row < 29 {
+        return table::MOST_SINGLE[row - 15] as u32;
+    }
+    if j == 0 {
+        return 400;
+    }
+    9999
 }
 
 // x is in the range of number j of a row.
@@ -76,10 +196,8 @@ fn in_range(row: usize, j: usize, x: u32) -> bool
     requires { ⌜ (row < 45) × (j < widthOf row) ⌝ }
     ensures { λ r. ⌜ r ≡ inRange (rangeOf row j) x ⌝ }
 {
-    let k = kind(row);
-    let at = table::FIRSTS[k] + j;
-    if table::LEAST[at] <= x {
-        x <= table::MOST[at]
+    if least(row, j) <= x {
+        x <= most(row, j)
     } else {
         false
     }

@@ -1,41 +1,61 @@
--- `rows::key_end` meets its contract: a key ends where the next kind's starts. Assumes nothing.
-use mathlib.Core.Path.{sym, _∙_, ap}
-use Prim.Native.Nat.{ℕ, _<_, _+_}
+-- `rows::key_end` meets its contract: the rule of ends, and the end past the rows. Assumes nothing.
+use Rattle.units.proofs.Steps.{steps}
+use Rattle.rows.proofs.Tables.{below}
+use Rattle.rows.proofs.Keys.{ends, endRule, end-ruled, end-last}
 use native.Mathlib.Omega.{arith}
-use lib.ListN.{getD}
 use borrow.Author.Needs.{needs}
-use Rattle.rows.proofs.Tables.{kind-few}
-use Rattle.rows.proofs.Keys.{startTable, start-tied, end-past}
 use Rattle.rows.proofs.key_end.Statement.{statement}
 use Rattle.rows.proofs.key_end.Tie as tie
 
-few : (c : tie.After-kind) → c .kind .result < 23
-few c = rw (c .kind .ensures) (kind-few (c .before .before .args .row) (omega arith))
+array-read-result : tie.Need-array-read-result
+array-read-result c = search needs
+
+cast-result : tie.Need-cast-result
+unfolding ends
+cast-result c =
+    record { fits = below 18446744073709551616 ends tt tt (c .before .args .row) }
 
 returns : tie.Need-returns
+unfolding endRule ends
 returns c =
-    sym (end-past (c .before .args .row) (c .if1 .taken))
-
-kind-requires : tie.Need-kind-requires
-kind-requires c κs = search needs
-
-add-result : tie.Need-add-result
-add-result c =
-    omega (arith, few c)
-
-mul-result : tie.Need-mul-result
-mul-result c =
-    omega (arith, few c)
-
-array-read-result : tie.Need-array-read-result
-array-read-result c =
-    omega (arith, few c)
+    end-ruled (c .before .args .row) (omega arith) (search steps)
 
 returns-2 : tie.Need-returns-2
-unfolding startTable
+unfolding endRule
 returns-2 c =
-    ap (λ (k : ℕ). getD startTable (k + 1) 0) (c .kind .ensures) ∙ start-tied _ (omega (arith, kind-few (c .before .before .args .row) (omega arith)))
+    end-ruled (c .before .before .args .row) (omega arith) (search steps)
+
+mul-result : tie.Need-mul-result
+mul-result c = search needs
+
+sub-result : tie.Need-sub-result
+sub-result c = search needs
+
+returns-3 : tie.Need-returns-3
+unfolding endRule
+returns-3 c =
+    end-ruled (c .before .before .before .args .row) (omega arith) (search steps)
+
+returns-4 : tie.Need-returns-4
+unfolding endRule
+returns-4 c =
+    end-ruled (c .before .before .before .before .args .row) (omega arith) (search steps)
+
+returns-5 : tie.Need-returns-5
+unfolding endRule
+returns-5 c =
+    end-last (c .before .before .before .before .args .row) (search steps)
 
 pub key-end-spec : {M : Type 1} → statement M
 key-end-spec =
-    tie.close (tie.spec returns kind-requires add-result mul-result array-read-result returns-2)
+    tie.close
+    (tie.spec
+    array-read-result
+    cast-result
+    returns
+    returns-2
+    mul-result
+    sub-result
+    returns-3
+    returns-4
+    returns-5)

@@ -1,25 +1,38 @@
--- `rows::kind` meets its contract: the table of kinds, and no kind past the rows. Assumes nothing.
+-- `rows::kind` meets its contract: the rule of kinds, and no kind past the rows. Assumes nothing.
 use mathlib.Core.Path.{sym}
+use Rattle.units.proofs.Steps.{steps}
+use Rattle.rows.proofs.Tables.{kindRule, kind-ruled, kind-past}
 use native.Mathlib.Omega.{arith}
-use Rattle.rows.proofs.Tables.{kindTable, kind-tied, kind-past}
 use borrow.Author.Needs.{needs}
 use Rattle.rows.proofs.kind.Statement.{statement}
 use Rattle.rows.proofs.kind.Tie as tie
 
 returns : tie.Need-returns
+unfolding kindRule
 returns c =
-    sym (kind-past (c .before .args .row) (c .if1 .taken))
-
-mul-result : tie.Need-mul-result
-mul-result c = search needs
-
-array-read-result : tie.Need-array-read-result
-array-read-result c = search needs
+    kind-ruled (c .before .args .row) (omega arith) (search steps)
 
 returns-2 : tie.Need-returns-2
-unfolding kindTable
+unfolding kindRule
 returns-2 c =
-    kind-tied (c .before .args .row) (omega arith)
+    kind-ruled (c .before .before .args .row) (omega arith) (search steps)
+
+sub-result : tie.Need-sub-result
+sub-result c = search needs
+
+returns-3 : tie.Need-returns-3
+unfolding kindRule
+returns-3 c =
+    kind-ruled (c .before .before .before .args .row) (omega arith) (search steps)
+
+returns-4 : tie.Need-returns-4
+unfolding kindRule
+returns-4 c =
+    kind-ruled (c .before .before .before .before .args .row) (omega arith) (search steps)
+
+returns-5 : tie.Need-returns-5
+returns-5 c =
+    sym (kind-past (c .before .before .before .before .args .row) (omega arith))
 
 pub kind-spec : {M : Type 1} → statement M
-kind-spec = tie.close (tie.spec returns mul-result array-read-result returns-2)
+kind-spec = tie.close (tie.spec returns returns-2 sub-result returns-3 returns-4 returns-5)

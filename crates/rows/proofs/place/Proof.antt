@@ -1,25 +1,62 @@
--- `rows::place` meets its contract: the table of places, and their end past the rows. Assumes nothing.
+-- `rows::place` meets its contract: the rule of places, and their end past the rows. Assumes nothing.
 use mathlib.Core.Path.{sym}
+use Rattle.units.proofs.Steps.{steps}
+use Rattle.rows.proofs.Tables.{placeRule, place-ruled, place-past}
 use native.Mathlib.Omega.{arith}
-use Rattle.rows.proofs.Tables.{placeTable, place-tied, place-past}
 use borrow.Author.Needs.{needs}
 use Rattle.rows.proofs.place.Statement.{statement}
 use Rattle.rows.proofs.place.Tie as tie
 
 returns : tie.Need-returns
+unfolding placeRule
 returns c =
-    sym (place-past (c .before .args .row) (c .if1 .taken))
+    place-ruled (c .before .args .row) (omega arith) (search steps)
 
 mul-result : tie.Need-mul-result
 mul-result c = search needs
 
-array-read-result : tie.Need-array-read-result
-array-read-result c = search needs
+sub-result : tie.Need-sub-result
+sub-result c = search needs
 
 returns-2 : tie.Need-returns-2
-unfolding placeTable
+unfolding placeRule
 returns-2 c =
-    place-tied (c .before .args .row) (omega arith)
+    place-ruled (c .before .before .args .row) (omega arith) (search steps)
+
+add-result : tie.Need-add-result
+add-result c = search needs
+
+returns-3 : tie.Need-returns-3
+unfolding placeRule
+returns-3 c =
+    place-ruled (c .before .before .before .args .row) (omega arith) (search steps)
+
+mul-result-2 : tie.Need-mul-result-2
+mul-result-2 c = search needs
+
+add-result-2 : tie.Need-add-result-2
+add-result-2 c = search needs
+
+returns-4 : tie.Need-returns-4
+unfolding placeRule
+returns-4 c =
+    place-ruled (c .before .before .before .before .args .row) (omega arith) (search steps)
+
+returns-5 : tie.Need-returns-5
+returns-5 c =
+    sym (place-past (c .before .before .before .before .args .row) (omega arith))
 
 pub place-spec : {M : Type 1} → statement M
-place-spec = tie.close (tie.spec returns mul-result array-read-result returns-2)
+place-spec =
+    tie.close
+    (tie.spec
+    returns
+    mul-result
+    sub-result
+    returns-2
+    add-result
+    returns-3
+    mul-result-2
+    add-result-2
+    returns-4
+    returns-5)
