@@ -10,16 +10,16 @@ use Rattle.accept.proofs.whole_fault.Reads as whole-fault-reads
 use Rattle.accept.proofs.accept.Kinds as accept-kinds
 use Rattle.accept.proofs.accept.Reads as accept-reads
 
-pub row-fault-fixed : Fixes 0 row-fault-kinds.ps row-fault-kinds.r row-fault-reads.Learnt
+pub row-fault-fixed : Fixes 1 row-fault-kinds.ps row-fault-kinds.r row-fault-reads.Learnt
 row-fault-fixed κs a z z′ w w′ p q = (p ∙ sym q, refl)
 
-pub row-fault-open : AsksNothing 0 row-fault-kinds.ps row-fault-reads.Asked
+pub row-fault-open : AsksNothing 1 row-fault-kinds.ps row-fault-reads.Asked
 row-fault-open κs a = tt
 
-pub lines-fault-fixed : Fixes 0 lines-fault-kinds.ps lines-fault-kinds.r lines-fault-reads.Learnt
+pub lines-fault-fixed : Fixes 1 lines-fault-kinds.ps lines-fault-kinds.r lines-fault-reads.Learnt
 lines-fault-fixed κs a z z′ w w′ p q = (p ∙ sym q, refl)
 
-pub lines-fault-open : AsksNothing 0 lines-fault-kinds.ps lines-fault-reads.Asked
+pub lines-fault-open : AsksNothing 1 lines-fault-kinds.ps lines-fault-reads.Asked
 lines-fault-open κs a = tt
 
 pub whole-fault-fixed : Fixes 0 whole-fault-kinds.ps whole-fault-kinds.r whole-fault-reads.Learnt

@@ -78,8 +78,8 @@ fn point_rises(before: Point, p: Point) -> bool
     }
 }
 
-fn before_phase(numbers: [u32; 118], i: usize) -> Phase
-    ensures { λ r. ⌜ r ≡ beforePhase numbers i ⌝ }
+fn before_phase(numbers: &[u32; 118], i: usize) -> Phase
+    ensures { λ r. ⌜ r ≡ beforePhase (now (numbers .entry)) i ⌝ }
 {
     if i == 0 {
         sheet::zero_phase()
@@ -88,8 +88,8 @@ fn before_phase(numbers: [u32; 118], i: usize) -> Phase
     }
 }
 
-fn point_fits(numbers: [u32; 118], i: usize) -> bool
-    ensures { λ r. ⌜ r ≡ pointFits numbers i ⌝ }
+fn point_fits(numbers: &[u32; 118], i: usize) -> bool
+    ensures { λ r. ⌜ r ≡ pointFits (now (numbers .entry)) i ⌝ }
 {
     let p = rows::point_at(numbers, i);
     if i == 0 {
@@ -106,8 +106,8 @@ fn after(row: usize, first: usize) -> usize
     if first < row { row - first } else { 0 }
 }
 
-fn rule_fault(numbers: [u32; 118], row: usize, line: u32) -> Answer
-    ensures { λ r. ⌜ r ≡ ruleFault numbers row line ⌝ }
+fn rule_fault(numbers: &[u32; 118], row: usize, line: u32) -> Answer
+    ensures { λ r. ⌜ r ≡ ruleFault (now (numbers .entry)) row line ⌝ }
 {
     let kind = rows::kind(row);
     if kind == 6 {
@@ -125,8 +125,8 @@ fn rule_fault(numbers: [u32; 118], row: usize, line: u32) -> Answer
 }
 
 // The fault of a row of the numbers, on that line of the text.
-pub fn row_fault(numbers: [u32; 118], row: usize, line: u32) -> Answer
-    ensures { λ r. ⌜ r ≡ rowFault numbers row line ⌝ }
+pub fn row_fault(numbers: &[u32; 118], row: usize, line: u32) -> Answer
+    ensures { λ r. ⌜ r ≡ rowFault (now (numbers .entry)) row line ⌝ }
 {
     let inside = rows::in_ranges(numbers, row);
     let ranges = refuse_unless(inside, Refusal::OutOfRange, line);
@@ -134,8 +134,8 @@ pub fn row_fault(numbers: [u32; 118], row: usize, line: u32) -> Answer
 }
 
 // The first fault of the lines that the numbers make.
-pub fn lines_fault(numbers: [u32; 118]) -> Answer
-    ensures { λ r. ⌜ r ≡ linesFault numbers ⌝ }
+pub fn lines_fault(numbers: &[u32; 118]) -> Answer
+    ensures { λ r. ⌜ r ≡ linesFault (now (numbers .entry)) ⌝ }
 {
     let mut row: usize = 0;
     let mut line: u32 = 1;
@@ -208,6 +208,7 @@ pub fn whole_fault(s: Sheet) -> Answer
 pub fn accept(s: Sheet) -> Answer
     ensures { λ r. ⌜ r ≡ acceptOf s ⌝ }
 {
-    let lines = lines_fault(rows::flat(s));
+    let numbers = rows::flat(s);
+    let lines = lines_fault(&numbers);
     or_else(lines, whole_fault(s))
 }

@@ -8,16 +8,17 @@ use lib.ListN.{length, getD, drop, set, drop-of-length-le}
 use borrow.Author.Tests.{le-ltb, lt-ltb, eq-eqb, ne-eqb}
 use Rattle.units.specs.Numbers.{pick}
 use Rattle.units.proofs.Walk.{rest-at}
+use Rattle.sheet.specs.declared.Answer.{Answer}
+use Rattle.sheet.specs.declared.Sheet.{Sheet}
 use Rattle.sheet.specs.Refusals.{isFine}
 use Rattle.rows.specs.Table.{present}
 use Rattle.rows.specs.Marks.{markOf}
 use Rattle.accept.specs.Lines.{lineAfter}
 use Rattle.reader.specs.declared.Figure.the-variants.{Bad, Is}
 use Rattle.reader.specs.declared.Place.the-variants.{Nowhere, At}
-use Rattle.reader.specs.declared.Step.{Step}
 use Rattle.reader.specs.Figures.{digitOf, more, number, after, afterAt}
 use Rattle.reader.specs.Line.{fieldAt, bad, good, fields}
-use Rattle.reader.specs.Read.{judgedAt, endAt, hereAt, linesFrom}
+use Rattle.reader.specs.Read.{Step, judgedAt, endAt, hereAt, linesFrom, reply}
 
 module _ (s : List ℕ) (i : ℕ) where
   module _ (v : ℕ) where
@@ -111,3 +112,8 @@ module _ (s : List ℕ) (row line at : ℕ) (v : List ℕ) where
         → linesFrom s (45 - row) row line at v ≡ linesFrom s (45 - (row + 1)) (row + 1) (line + 1) (t .next) (t .numbers)
     unfolding linesFrom hereAt lineAfter pick
     lines-step h a b = let e : 45 - row ≡ suc (45 - (row + 1)) = omega arith in rw (e, a, ← taken, b)
+
+-- a refusal comes with the zero sheet, whatever was read
+pub reply-bad : (a : Answer) (s t : Sheet) → isFine a ≡ false → reply a s ≡ reply a t
+unfolding reply pick
+reply-bad a s t e = rw e

@@ -11,7 +11,6 @@ use Rattle.reader.specs.declared.Figure.{Figure}
 use Rattle.reader.specs.declared.Figure.the-variants.{Bad, Is}
 use Rattle.reader.specs.declared.Place.{Place}
 use Rattle.reader.specs.declared.Place.the-variants.{Nowhere, At}
-use Rattle.reader.specs.declared.Taken.{Taken}
 use Rattle.reader.specs.Figures.{numberAt, afterAt}
 
 -- what follows where a word or a number was found, and what follows where not
@@ -42,6 +41,11 @@ unfoldable pub fieldAt : List ℕ → ℕ → ℕ → Figure
 fieldAt s at form = pick (eqb form worded) (wordAt s at) (pick (eqb form signed) (signedAt s at) (numberAt s at))
 
 -- what was read of a line: whether it is well made, the place past it, and the numbers with its own stored
+pub record Taken : Type 0 where
+  pub good : Bool
+  pub next : ℕ
+  pub numbers : List ℕ
+
 abbrev pub soFar : Bool → ℕ → List ℕ → Taken
 soFar good next v = record { good = good; next = next; numbers = v }
 

@@ -14,12 +14,15 @@ use Rattle.rows.specs.Table.{present}
 use Rattle.rows.specs.Flat.{sheetOf}
 use Rattle.accept.specs.Lines.{rowFault, lineAfter}
 use Rattle.accept.specs.Whole.{wholeFault}
-use Rattle.reader.specs.declared.Taken.{Taken}
-use Rattle.reader.specs.declared.Step.{Step}
 use Rattle.reader.specs.declared.Reading.{Reading}
-use Rattle.reader.specs.Line.{lineAt}
+use Rattle.reader.specs.Line.{Taken, lineAt}
 
 -- the answer so far, the place past what was read, and the numbers
+pub record Step : Type 0 where
+  pub answer : Answer
+  pub next : ℕ
+  pub numbers : List ℕ
+
 abbrev pub step : Answer → ℕ → List ℕ → Step
 step answer next v = record { answer = answer; next = next; numbers = v }
 

@@ -1,11 +1,12 @@
 // Reads a site sheet from its text.
 ghost use mathlib.Core.Path.{_≡_};
-ghost use Prim.Native.Nat.{_+_, _≤_, _<_};
+ghost use Prim.Native.Nat.{ℕ, _+_, _≤_, _<_};
+ghost use mathlib.Core.List.{List};
 ghost use Rattle.rows.specs.Table.{keyOf};
 ghost use Rattle.rows.specs.Marks.{markOf};
 ghost use Rattle.reader.specs.Figures.{digitOf, numberAt, afterAt};
 ghost use Rattle.reader.specs.Line.{onPlace, wordAt, signedAt, fieldAt, soFar, fields, ended, lineAt};
-ghost use Rattle.reader.specs.Read.{judgedAt, endAt, linesOf, reply, readOf};
+ghost use Rattle.reader.specs.Read.{step, judgedAt, endAt, linesFrom, reply, readOf};
 ghost use Rattle.reader.specs.declared.Figure.the-variants.{Is};
 use sheet::Answer;
 use sheet::Refusal;
@@ -23,18 +24,16 @@ pub enum Place {
     At(usize),
 }
 
-// What was read of a line: whether it is well made, the place past it, and the numbers with its own stored.
-pub struct Taken {
+// What was read of a line: whether it is well made, and the place past it. Its numbers are stored in the array lent.
+pub struct Found {
     pub good: bool,
     pub next: usize,
-    pub numbers: [u32; 118],
 }
 
-// The answer so far, the place past what was read, and the numbers.
-pub struct Step {
+// The answer so far, and the place past what was read.
+pub struct Reached {
     pub answer: Answer,
     pub next: usize,
-    pub numbers: [u32; 118],
 }
 
 // The answer to a text, and its sheet, which is the zero sheet where the answer is a refusal.
@@ -179,32 +178,27 @@ fn key(s: &[u8], at: usize, row: usize) -> Place
     after(s, at, &keys[start..end])
 }
 
-fn so_far(good: bool, next: usize, numbers: [u32; 118]) -> Taken
-    ensures { λ r. ⌜ r ≡ soFar good next numbers ⌝ }
-{
-    Taken {
-        good: good,
-        next: next,
-        numbers: numbers,
-    }
-}
-
 // n numbers of a line, stored from a place on.
-fn fields(s: &[u8], at: usize, form: usize, place: usize, n: usize, numbers: [u32; 118]) -> Taken
+fn fields(s: &[u8], at: usize, form: usize, place: usize, n: usize, v: &mut [u32; 118]) -> Found
     requires { ⌜ place + n ≤ 118 ⌝ }
-    ensures { λ r. ⌜ r ≡ fields (now (s .entry)) form place n 0 at numbers ⌝ }
+    ensures { λ r. ⌜ soFar (r .good) (r .next) (now (v .exit)) ≡ fields (now (s .entry)) form place n 0 at (now (v .entry)) ⌝ }
 {
-    let mut v = numbers;
     let mut p = at;
     let mut j: usize = 0;
     while j < n {
         match mark(s, p, j) {
             Place::Nowhere => {
-                return so_far(false, 0, v);
+                return Found {
+                    good: false,
+                    next: 0,
+                };
             }
             Place::At(q) => match field(s, q, form) {
                 Figure::Bad => {
-                    return so_far(false, 0, v);
+                    return Found {
+                        good: false,
+                        next: 0,
+                    };
                 }
                 Figure::Is(x, t) => {
                     let e = place + j;
@@ -215,89 +209,94 @@ fn fields(s: &[u8], at: usize, form: usize, place: usize, n: usize, numbers: [u3
         }
         j = j + 1;
     }
-    so_far(true, p, v)
+    Found {
+        good: true,
+        next: p,
+    }
 }
 
 // What was read of a line, once its line feed is seen.
-fn ended(s: &[u8], taken: Taken) -> Taken
-    ensures { λ r. ⌜ r ≡ ended (now (s .entry)) taken ⌝ }
+fn ended(s: &[u8], found: Found) -> Found
+    ensures { λ r. ⌜ ((v : List ℕ) → soFar (r .good) (r .next) v ≡ ended (now (s .entry)) (soFar (found .good) (found .next) v)) ⌝ }
 {
-    if taken.good {
-        let at = taken.next;
-        let v = taken.numbers;
+    if found.good {
+        let at = found.next;
         match after(s, at, b"\n") {
-            Place::Nowhere => so_far(false, 0, v),
-            Place::At(q) => so_far(true, q, v),
+            Place::Nowhere => Found {
+                good: false,
+                next: 0,
+            },
+            Place::At(q) => Found {
+                good: true,
+                next: q,
+            },
         }
     } else {
-        taken
+        found
     }
 }
 
 // The line of a row at a place of the text.
-fn line(s: &[u8], at: usize, row: usize, numbers: [u32; 118]) -> Taken
+fn line(s: &[u8], at: usize, row: usize, v: &mut [u32; 118]) -> Found
     requires { ⌜ row < 45 ⌝ }
-    ensures { λ r. ⌜ r ≡ lineAt (now (s .entry)) at row numbers ⌝ }
+    ensures { λ r. ⌜ soFar (r .good) (r .next) (now (v .exit)) ≡ lineAt (now (s .entry)) at row (now (v .entry)) ⌝ }
 {
     let form = rows::form(row);
     let place = rows::place(row);
     let n = rows::width(row);
     match key(s, at, row) {
-        Place::Nowhere => so_far(false, 0, numbers),
+        Place::Nowhere => Found {
+            good: false,
+            next: 0,
+        },
         Place::At(p) => {
-            let taken = fields(s, p, form, place, n, numbers);
-            ended(s, taken)
+            let found = fields(s, p, form, place, n, v);
+            ended(s, found)
         }
     }
 }
 
 // The same with its fault, by its line number.
-fn judged(s: &[u8], at: usize, row: usize, number: u32, numbers: [u32; 118]) -> Step
+fn judged(s: &[u8], at: usize, row: usize, number: u32, v: &mut [u32; 118]) -> Reached
     requires { ⌜ row < 45 ⌝ }
-    ensures { λ r. ⌜ r ≡ judgedAt (now (s .entry)) at row number numbers ⌝ }
+    ensures { λ r. ⌜ step (r .answer) (r .next) (now (v .exit)) ≡ judgedAt (now (s .entry)) at row number (now (v .entry)) ⌝ }
 {
-    let taken = line(s, at, row, numbers);
-    let v = taken.numbers;
-    if taken.good {
+    let found = line(s, at, row, v);
+    if found.good {
         let answer = accept::row_fault(v, row, number);
-        Step {
+        Reached {
             answer: answer,
-            next: taken.next,
-            numbers: v,
+            next: found.next,
         }
     } else {
-        Step {
+        Reached {
             answer: Answer::Refused(Refusal::Malformed, number),
             next: 0,
-            numbers: v,
         }
     }
 }
 
 // After the last line nothing stands.
-fn end(s: &[u8], number: u32, at: usize, numbers: [u32; 118]) -> Step
-    ensures { λ r. ⌜ r ≡ endAt (now (s .entry)) number at numbers ⌝ }
+fn end(s: &[u8], number: u32, at: usize) -> Reached
+    ensures { λ r. ⌜ ((v : List ℕ) → step (r .answer) (r .next) v ≡ endAt (now (s .entry)) number at v) ⌝ }
 {
     if at == s.len() {
-        Step {
+        Reached {
             answer: Answer::Fine,
             next: at,
-            numbers: numbers,
         }
     } else {
-        Step {
+        Reached {
             answer: Answer::Refused(Refusal::Malformed, number),
             next: 0,
-            numbers: numbers,
         }
     }
 }
 
 // All lines of the text.
-fn lines(s: &[u8]) -> Step
-    ensures { λ r. ⌜ r ≡ linesOf (now (s .entry)) ⌝ }
+fn lines(s: &[u8], v: &mut [u32; 118]) -> Reached
+    ensures { λ r. ⌜ step (r .answer) (r .next) (now (v .exit)) ≡ linesFrom (now (s .entry)) 45 0 1 0 (now (v .entry)) ⌝ }
 {
-    let mut v = [0u32; 118];
     let mut at: usize = 0;
     let mut number: u32 = 1;
     let mut row: usize = 0;
@@ -306,8 +305,6 @@ fn lines(s: &[u8]) -> Step
             let taken = judged(s, at, row, number, v);
             let answer = taken.answer;
             if sheet::is_fine(answer) {
-                let w = taken.numbers;
-                v = w;
                 at = taken.next;
                 number += 1;
                 row += 1;
@@ -318,7 +315,7 @@ fn lines(s: &[u8]) -> Step
             row += 1;
         }
     }
-    end(s, number, at, v)
+    end(s, number, at)
 }
 
 // A refusal comes with the zero sheet.
@@ -343,12 +340,13 @@ fn reply(answer: Answer, s: Sheet) -> Reading
 pub fn read(text: &[u8]) -> Reading
     ensures { λ r. ⌜ r ≡ readOf (now (text .entry)) ⌝ }
 {
-    let found = lines(text);
+    let mut numbers = [0u32; 118];
+    let found = lines(text, &mut numbers);
     let answer = found.answer;
-    let numbers = found.numbers;
-    let s = rows::sheet_of(numbers);
     if sheet::is_fine(answer) {
+        let s = rows::sheet_of(&numbers);
         return reply(accept::whole_fault(s), s);
     }
-    reply(answer, s)
+    let zero = sheet::zero_sheet();
+    reply(answer, zero)
 }

@@ -62,16 +62,16 @@ key-end-fixed κs a z z′ w w′ p q = (p ∙ sym q, refl)
 pub key-end-open : AsksNothing 0 key-end-kinds.ps key-end-reads.Asked
 key-end-open κs a = tt
 
-pub in-ranges-fixed : Fixes 0 in-ranges-kinds.ps in-ranges-kinds.r in-ranges-reads.Learnt
+pub in-ranges-fixed : Fixes 1 in-ranges-kinds.ps in-ranges-kinds.r in-ranges-reads.Learnt
 in-ranges-fixed κs a z z′ w w′ p q = (p ∙ sym q, refl)
 
-pub in-ranges-open : AsksNothing 0 in-ranges-kinds.ps in-ranges-reads.Asked
+pub in-ranges-open : AsksNothing 1 in-ranges-kinds.ps in-ranges-reads.Asked
 in-ranges-open κs a = tt
 
-pub present-fixed : Fixes 0 present-kinds.ps present-kinds.r present-reads.Learnt
+pub present-fixed : Fixes 1 present-kinds.ps present-kinds.r present-reads.Learnt
 present-fixed κs a z z′ w w′ p q = (p ∙ sym q, refl)
 
-pub present-open : AsksNothing 0 present-kinds.ps present-reads.Asked
+pub present-open : AsksNothing 1 present-kinds.ps present-reads.Asked
 present-open κs a = tt
 
 pub flat-fixed : Fixes 0 flat-kinds.ps flat-kinds.r flat-reads.Learnt
@@ -80,20 +80,20 @@ flat-fixed κs a z z′ w w′ p q = (p ∙ sym q, refl)
 pub flat-open : AsksNothing 0 flat-kinds.ps flat-reads.Asked
 flat-open κs a = tt
 
-pub phase-at-fixed : Fixes 0 phase-at-kinds.ps phase-at-kinds.r phase-at-reads.Learnt
+pub phase-at-fixed : Fixes 1 phase-at-kinds.ps phase-at-kinds.r phase-at-reads.Learnt
 phase-at-fixed κs a z z′ w w′ p q = (p ∙ sym q, refl)
 
-pub phase-at-open : AsksNothing 0 phase-at-kinds.ps phase-at-reads.Asked
+pub phase-at-open : AsksNothing 1 phase-at-kinds.ps phase-at-reads.Asked
 phase-at-open κs a = tt
 
-pub point-at-fixed : Fixes 0 point-at-kinds.ps point-at-kinds.r point-at-reads.Learnt
+pub point-at-fixed : Fixes 1 point-at-kinds.ps point-at-kinds.r point-at-reads.Learnt
 point-at-fixed κs a z z′ w w′ p q = (p ∙ sym q, refl)
 
-pub point-at-open : AsksNothing 0 point-at-kinds.ps point-at-reads.Asked
+pub point-at-open : AsksNothing 1 point-at-kinds.ps point-at-reads.Asked
 point-at-open κs a = tt
 
-pub sheet-of-fixed : Fixes 0 sheet-of-kinds.ps sheet-of-kinds.r sheet-of-reads.Learnt
+pub sheet-of-fixed : Fixes 1 sheet-of-kinds.ps sheet-of-kinds.r sheet-of-reads.Learnt
 sheet-of-fixed κs a z z′ w w′ p q = (p ∙ sym q, refl)
 
-pub sheet-of-open : AsksNothing 0 sheet-of-kinds.ps sheet-of-reads.Asked
+pub sheet-of-open : AsksNothing 1 sheet-of-kinds.ps sheet-of-reads.Asked
 sheet-of-open κs a = tt

@@ -204,8 +204,8 @@ fn in_range(row: usize, j: usize, x: u32) -> bool
 }
 
 // Each number of a row is in its range.
-pub fn in_ranges(numbers: [u32; 118], row: usize) -> bool
-    ensures { λ r. ⌜ r ≡ inRanges numbers (placeOf row) (rangesOf row) ⌝ }
+pub fn in_ranges(numbers: &[u32; 118], row: usize) -> bool
+    ensures { λ r. ⌜ r ≡ inRanges (now (numbers .entry)) (placeOf row) (rangesOf row) ⌝ }
 {
     if 45 <= row {
         return true;
@@ -223,20 +223,26 @@ pub fn in_ranges(numbers: [u32; 118], row: usize) -> bool
     true
 }
 
+fn wide(x: u32) -> usize
+    ensures { λ r. ⌜ r ≡ x ⌝ }
+{
+    x as usize
+}
+
 // The sheet's text has this row: all but the phases and points past the counts.
-pub fn present(numbers: [u32; 118], row: usize) -> bool
-    ensures { λ r. ⌜ r ≡ present numbers row ⌝ }
+pub fn present(numbers: &[u32; 118], row: usize) -> bool
+    ensures { λ r. ⌜ r ≡ present (now (numbers .entry)) row ⌝ }
 {
     if row < 6 {
         return true;
     }
     if row < 14 {
-        return row - 6 < numbers[5] as usize;
+        return row - 6 < wide(numbers[5]);
     }
     if row < 29 {
         return true;
     }
-    row - 29 < numbers[85] as usize
+    row - 29 < wide(numbers[85])
 }
 
 fn vehicle_number(vehicle: Vehicle) -> u32
@@ -262,11 +268,10 @@ fn grade_number(grade: i16) -> u32
 }
 
 // A phase's numbers from a place on.
-fn with_phase(numbers: [u32; 118], at: usize, p: Phase) -> [u32; 118]
+fn with_phase(v: &mut [u32; 118], at: usize, p: Phase)
     requires { ⌜ at ≤ 110 ⌝ }
-    ensures { λ r. ⌜ r ≡ sets numbers at (phaseNumbers p) ⌝ }
+    ensures { λ r. ⌜ now (v .exit) ≡ sets (now (v .entry)) at (phaseNumbers p) ⌝ }
 {
-    let mut v = numbers;
     v[at] = p.number;
     v[at + 1] = p.green;
     v[at + 2] = p.other;
@@ -275,45 +280,36 @@ fn with_phase(numbers: [u32; 118], at: usize, p: Phase) -> [u32; 118]
     v[at + 5] = p.walk;
     v[at + 6] = p.clearance;
     v[at + 7] = p.mode;
-    v
 }
 
-fn with_point(numbers: [u32; 118], at: usize, p: Point) -> [u32; 118]
+fn with_point(v: &mut [u32; 118], at: usize, p: Point)
     requires { ⌜ at ≤ 116 ⌝ }
-    ensures { λ r. ⌜ r ≡ sets numbers at (pointNumbers p) ⌝ }
+    ensures { λ r. ⌜ now (v .exit) ≡ sets (now (v .entry)) at (pointNumbers p) ⌝ }
 {
-    let mut v = numbers;
     v[at] = p.feet;
     v[at + 1] = p.tenths;
-    v
 }
 
-fn with_phases(numbers: [u32; 118], phases: [Phase; 8]) -> [u32; 118]
-    ensures { λ r. ⌜ r ≡ sets numbers 6 (numbersFrom phaseNumbers zeroPhase 8 0 phases) ⌝ }
+fn with_phases(v: &mut [u32; 118], phases: [Phase; 8])
+    ensures { λ r. ⌜ now (v .exit) ≡ sets (now (v .entry)) 6 (numbersFrom phaseNumbers zeroPhase 8 0 phases) ⌝ }
 {
-    let mut v = numbers;
     let mut i: usize = 0;
     while i < 8 {
         let p = phases[i];
-        let w = with_phase(v, 6 + 8 * i, p);
-        v = w;
+        with_phase(v, 6 + 8 * i, p);
         i += 1;
     }
-    v
 }
 
-fn with_points(numbers: [u32; 118], points: [Point; 16]) -> [u32; 118]
-    ensures { λ r. ⌜ r ≡ sets numbers 86 (numbersFrom pointNumbers zeroPoint 16 0 points) ⌝ }
+fn with_points(v: &mut [u32; 118], points: [Point; 16])
+    ensures { λ r. ⌜ now (v .exit) ≡ sets (now (v .entry)) 86 (numbersFrom pointNumbers zeroPoint 16 0 points) ⌝ }
 {
-    let mut v = numbers;
     let mut i: usize = 0;
     while i < 16 {
         let p = points[i];
-        let w = with_point(v, 86 + 2 * i, p);
-        v = w;
+        with_point(v, 86 + 2 * i, p);
         i += 1;
     }
-    v
 }
 
 // The sheet's numbers in the rows' order.
@@ -346,16 +342,32 @@ pub fn flat(s: Sheet) -> [u32; 118]
     v[83] = s.l57;
     v[84] = s.l58;
     v[85] = s.point_count;
-    let w = with_phases(v, phases);
-    with_points(w, points)
+    with_phases(&mut v, phases);
+    with_points(&mut v, points);
+    v
+}
+
+// Past the end of the numbers; by value, since what is lent does not tell its length.
+fn no_phase(numbers: [u32; 118], i: usize) -> Phase
+    requires { ⌜ 14 ≤ i ⌝ }
+    ensures { λ r. ⌜ r ≡ phaseAt numbers i ⌝ }
+{
+    sheet::zero_phase()
+}
+
+fn no_point(numbers: [u32; 118], i: usize) -> Point
+    requires { ⌜ 16 ≤ i ⌝ }
+    ensures { λ r. ⌜ r ≡ pointAt numbers i ⌝ }
+{
+    sheet::zero_point()
 }
 
 // The phase and the point of that place in their arrays; past the end, the zero ones.
-pub fn phase_at(numbers: [u32; 118], i: usize) -> Phase
-    ensures { λ r. ⌜ r ≡ phaseAt numbers i ⌝ }
+pub fn phase_at(numbers: &[u32; 118], i: usize) -> Phase
+    ensures { λ r. ⌜ r ≡ phaseAt (now (numbers .entry)) i ⌝ }
 {
     if 14 <= i {
-        return sheet::zero_phase();
+        return no_phase(*numbers, i);
     }
     let at = 6 + 8 * i;
     Phase {
@@ -370,11 +382,11 @@ pub fn phase_at(numbers: [u32; 118], i: usize) -> Phase
     }
 }
 
-pub fn point_at(numbers: [u32; 118], i: usize) -> Point
-    ensures { λ r. ⌜ r ≡ pointAt numbers i ⌝ }
+pub fn point_at(numbers: &[u32; 118], i: usize) -> Point
+    ensures { λ r. ⌜ r ≡ pointAt (now (numbers .entry)) i ⌝ }
 {
     if 16 <= i {
-        return sheet::zero_point();
+        return no_point(*numbers, i);
     }
     let at = 86 + 2 * i;
     Point {
@@ -409,8 +421,8 @@ fn grade_of(x: u32) -> i16
     }
 }
 
-fn phases_of(numbers: [u32; 118]) -> [Phase; 8]
-    ensures { λ r. ⌜ r ≡ entriesFrom (phaseAt numbers) 8 0 ⌝ }
+fn phases_of(numbers: &[u32; 118]) -> [Phase; 8]
+    ensures { λ r. ⌜ r ≡ entriesFrom (phaseAt (now (numbers .entry))) 8 0 ⌝ }
 {
     let none = sheet::zero_phase();
     let mut phases = [none; 8];
@@ -423,8 +435,8 @@ fn phases_of(numbers: [u32; 118]) -> [Phase; 8]
     phases
 }
 
-fn points_of(numbers: [u32; 118]) -> [Point; 16]
-    ensures { λ r. ⌜ r ≡ entriesFrom (pointAt numbers) 16 0 ⌝ }
+fn points_of(numbers: &[u32; 118]) -> [Point; 16]
+    ensures { λ r. ⌜ r ≡ entriesFrom (pointAt (now (numbers .entry))) 16 0 ⌝ }
 {
     let none = sheet::zero_point();
     let mut points = [none; 16];
@@ -438,8 +450,8 @@ fn points_of(numbers: [u32; 118]) -> [Point; 16]
 }
 
 // The sheet of the numbers.
-pub fn sheet_of(numbers: [u32; 118]) -> Sheet
-    ensures { λ r. ⌜ r ≡ sheetOf numbers ⌝ }
+pub fn sheet_of(numbers: &[u32; 118]) -> Sheet
+    ensures { λ r. ⌜ r ≡ sheetOf (now (numbers .entry)) ⌝ }
 {
     let vehicle = vehicle_of(numbers[1]);
     let grade = grade_of(numbers[2]);

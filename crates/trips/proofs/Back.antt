@@ -17,8 +17,8 @@ use Rattle.rows.specs.Table.{formOf, keyOf, widthOf, placeOf, present}
 use Rattle.rows.specs.Marks.{markOf, lineFeed}
 use Rattle.rows.proofs.Tables.{place-room}
 use Rattle.accept.specs.Lines.{rowFault, hereFault, lineAfter, faultFrom}
-use Rattle.reader.specs.declared.Taken.{Taken}
-use Rattle.reader.specs.declared.Step.{Step}
+use Rattle.reader.specs.Line.{Taken}
+use Rattle.reader.specs.Read.{Step}
 use Rattle.reader.specs.declared.Place.the-variants.{At}
 use Rattle.reader.specs.Figures.{afterAt}
 use Rattle.reader.specs.Line.{fieldAt, bad, good, fields, ended, lineAt}

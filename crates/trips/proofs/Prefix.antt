@@ -16,8 +16,8 @@ use Rattle.rows.specs.Marks.{markOf, minus, lineFeed, wordOf}
 use Rattle.rows.specs.Flat.{sheetOf}
 use Rattle.accept.specs.Lines.{lineAfter}
 use Rattle.accept.specs.Whole.{wholeFault}
-use Rattle.reader.specs.declared.Taken.{Taken}
-use Rattle.reader.specs.declared.Step.{Step}
+use Rattle.reader.specs.Line.{Taken}
+use Rattle.reader.specs.Read.{Step}
 use Rattle.reader.specs.Figures.{digitOf, more, number, after, numberAt, afterAt}
 use Rattle.reader.specs.Line.{wordAt, signedAt, fieldAt, good, fields, ended, lineAt}
 use Rattle.reader.specs.Read.{judgedAt, endAt, onStep, hereAt, linesFrom, reply, readOf}

@@ -25,7 +25,7 @@ use Rattle.accept.specs.Ranges.{Between}
 use Rattle.accept.proofs.Rows.{in-each, fine-rows, row-ranges}
 use Rattle.accept.proofs.Sound.{sound}
 use Rattle.reader.specs.declared.Reading.{Reading}
-use Rattle.reader.specs.declared.Step.{Step}
+use Rattle.reader.specs.Read.{Step}
 use Rattle.reader.specs.Read.{linesOf, reply, readOf}
 use Rattle.writer.specs.Text.{textFrom, textOf}
 use Rattle.writer.specs.Write.{answerTo, writtenOf, bytesOf}

@@ -124,10 +124,10 @@ fn put_fields(
     form: usize,
     place: usize,
     n: usize,
-    numbers: [u32; 118],
+    numbers: &[u32; 118],
 ) -> usize
     requires { ⌜ (place + n ≤ 118) × (at ≤ 9000) ⌝ }
-    ensures { λ r. ⌜ Put (now (out .entry)) (now (out .exit)) at r (fieldsText form place n 0 numbers) ⌝ }
+    ensures { λ r. ⌜ Put (now (out .entry)) (now (out .exit)) at r (fieldsText form place n 0 (now (numbers .entry))) ⌝ }
 {
     let mut p = at;
     let mut j: usize = 0;
@@ -141,9 +141,9 @@ fn put_fields(
 }
 
 // The line of a row.
-fn put_line(out: &mut [u8], at: usize, row: usize, numbers: [u32; 118]) -> usize
+fn put_line(out: &mut [u8], at: usize, row: usize, numbers: &[u32; 118]) -> usize
     requires { ⌜ (row < 45) × (at ≤ 8000) ⌝ }
-    ensures { λ r. ⌜ Put (now (out .entry)) (now (out .exit)) at r (rowText row numbers) ⌝ }
+    ensures { λ r. ⌜ Put (now (out .entry)) (now (out .exit)) at r (rowText row (now (numbers .entry))) ⌝ }
 {
     let form = rows::form(row);
     let place = rows::place(row);
@@ -154,8 +154,8 @@ fn put_line(out: &mut [u8], at: usize, row: usize, numbers: [u32; 118]) -> usize
 }
 
 // All lines.
-fn put_lines(out: &mut [u8], numbers: [u32; 118]) -> usize
-    ensures { λ r. ⌜ Put (now (out .entry)) (now (out .exit)) 0 r (textFrom numbers 45 0) ⌝ }
+fn put_lines(out: &mut [u8], numbers: &[u32; 118]) -> usize
+    ensures { λ r. ⌜ Put (now (out .entry)) (now (out .exit)) 0 r (textFrom (now (numbers .entry)) 45 0) ⌝ }
 {
     let mut p: usize = 0;
     let mut row: usize = 0;
@@ -177,14 +177,14 @@ pub fn write(sheet: Sheet, out: &mut [u8]) -> Written
     let answer = accept::accept(sheet);
     if sheet::is_fine(answer) {
         let numbers = rows::flat(sheet);
-        let needed = put_lines(&mut out[0..0], numbers);
+        let needed = put_lines(&mut out[0..0], &numbers);
         if out.len() < needed {
             return Written {
                 answer: Answer::Refused(Refusal::NoRoom, 0),
                 length: 0,
             };
         }
-        let length = put_lines(out, numbers);
+        let length = put_lines(out, &numbers);
         return Written {
             answer: Answer::Fine,
             length: length,

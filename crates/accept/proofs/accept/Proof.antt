@@ -1,9 +1,9 @@
 -- `accept::accept` meets its contract: the lines, then the whole. Assumes nothing.
-use borrow.Author.Needs.{needs}
 use mathlib.Core.Path.{_∙_, ap}
 use Rattle.sheet.specs.Refusals.{orElse}
 use Rattle.accept.specs.Lines.{linesFault}
 use Rattle.accept.specs.Whole.{acceptOf}
+use borrow.Author.Needs.{needs}
 use Rattle.accept.proofs.accept.Statement.{statement}
 use Rattle.accept.proofs.accept.Tie as tie
 
@@ -22,7 +22,7 @@ or-else-requires c κs = search needs
 returns : tie.Need-returns
 unfolding acceptOf
 returns c =
-    let lines = c .before .before .lines-fault .ensures ∙ ap linesFault (c .before .before .before .flat .ensures) in c .or-else .ensures ∙ λ i. orElse (lines i) (c .before .whole-fault .ensures i)
+    let lines = c .before .before .lines-fault .ensures ∙ ap linesFault (c .before .before .before .before .flat .ensures) in c .or-else .ensures ∙ λ i. orElse (lines i) (c .before .whole-fault .ensures i)
 
 pub accept-spec : {M : Type 1} → statement M
 accept-spec =

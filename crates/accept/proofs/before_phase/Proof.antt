@@ -1,7 +1,7 @@
 -- `accept::before_phase` meets its contract, branch by branch. Assumes nothing.
-use borrow.Author.Needs.{needs}
 use Rattle.units.proofs.Steps.{steps}
 use Rattle.accept.specs.Lines.{beforePhase}
+use borrow.Author.Needs.{needs}
 use Rattle.accept.proofs.before_phase.Statement.{statement}
 use Rattle.accept.proofs.before_phase.Tie as tie
 

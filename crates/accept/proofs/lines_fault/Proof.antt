@@ -1,11 +1,11 @@
 -- `accept::lines_fault` meets its contract: at each row the rows left have the first fault of all. Assumes nothing.
-use borrow.Author.Needs.{needs}
 use mathlib.Core.Path.{_≡_, _∙_, sym, ap}
 use Prim.Native.Nat.{_+_, _-_, _≤_}
-use native.Mathlib.Omega.{arith}
 use Rattle.sheet.specs.Refusals.{isFine}
 use Rattle.accept.specs.Lines.{faultFrom}
 use Rattle.accept.proofs.Along.{absent, fine-row, bad-row, no-more}
+use borrow.Author.Needs.{needs}
+use native.Mathlib.Omega.{arith}
 use Rattle.accept.proofs.lines_fault.Statement.{statement}
 use Rattle.accept.proofs.lines_fault.Tie as tie
 
@@ -39,11 +39,11 @@ loop-less c = search needs
 
 loop-again : tie.Need-loop-again Inv-loop μ-loop
 loop-again c =
-    (omega arith, sym (fine-row (c .before .before .before .before .before .before .before .args .numbers) (c .before .before .before .before .before .before .loop .row) (c .before .before .before .before .before .before .loop .line) (omega arith) (sym (c .before .before .before .before .present .ensures) ∙ c .before .before .before .if1 .taken) (sym (ap isFine (c .before .before .row-fault .ensures)) ∙ sym (c .before .is-fine .ensures) ∙ c .if2 .taken)) ∙ c .before .before .before .before .before .before .loop .inv .1)
+    (omega arith, sym (fine-row (c .before .before .before .before .before .before .before .args .numbers .now) (c .before .before .before .before .before .before .loop .row) (c .before .before .before .before .before .before .loop .line) (omega arith) (sym (c .before .before .before .before .present .ensures) ∙ c .before .before .before .if1 .taken) (sym (ap isFine (c .before .before .row-fault .ensures)) ∙ sym (c .before .is-fine .ensures) ∙ c .if2 .taken)) ∙ c .before .before .before .before .before .before .loop .inv .1)
 
 returns : tie.Need-returns Inv-loop μ-loop
 returns c =
-    c .before .before .row-fault .ensures ∙ sym (bad-row (c .before .before .before .before .before .before .before .args .numbers) (c .before .before .before .before .before .before .loop .row) (c .before .before .before .before .before .before .loop .line) (omega arith) (sym (c .before .before .before .before .present .ensures) ∙ c .before .before .before .if1 .taken) (sym (ap isFine (c .before .before .row-fault .ensures)) ∙ sym (c .before .is-fine .ensures) ∙ c .if2 .left)) ∙ c .before .before .before .before .before .before .loop .inv .1
+    c .before .before .row-fault .ensures ∙ sym (bad-row (c .before .before .before .before .before .before .before .args .numbers .now) (c .before .before .before .before .before .before .loop .row) (c .before .before .before .before .before .before .loop .line) (omega arith) (sym (c .before .before .before .before .present .ensures) ∙ c .before .before .before .if1 .taken) (sym (ap isFine (c .before .before .row-fault .ensures)) ∙ sym (c .before .is-fine .ensures) ∙ c .if2 .left)) ∙ c .before .before .before .before .before .before .loop .inv .1
 
 add-row-2 : tie.Need-add-row-2 Inv-loop μ-loop
 add-row-2 c = search needs
@@ -53,11 +53,11 @@ loop-less-2 c = search needs
 
 loop-again-2 : tie.Need-loop-again-2 Inv-loop μ-loop
 loop-again-2 c =
-    (omega arith, sym (absent (c .before .before .before .before .args .numbers) (c .before .before .before .loop .row) (c .before .before .before .loop .line) (omega arith) (sym (c .before .present .ensures) ∙ c .if1 .left)) ∙ c .before .before .before .loop .inv .1)
+    (omega arith, sym (absent (c .before .before .before .before .args .numbers .now) (c .before .before .before .loop .row) (c .before .before .before .loop .line) (omega arith) (sym (c .before .present .ensures) ∙ c .if1 .left)) ∙ c .before .before .before .loop .inv .1)
 
 returns-2 : tie.Need-returns-2 Inv-loop μ-loop
 returns-2 c =
-    sym (no-more (c .before .before .args .numbers) (c .before .loop .row) (c .before .loop .line) (omega arith)) ∙ c .before .loop .inv .1
+    sym (no-more (c .before .before .args .numbers .now) (c .before .loop .row) (c .before .loop .line) (omega arith)) ∙ c .before .loop .inv .1
 
 pub lines-fault-spec : {M : Type 1} → statement M
 lines-fault-spec =

@@ -1,9 +1,9 @@
 -- `accept::point_fits` meets its contract: the first point starts, each later one rises. Assumes nothing.
-use borrow.Author.Needs.{needs}
 use mathlib.Core.Path.{_∙_, ap}
 use Rattle.units.proofs.Steps.{pick-yes, pick-not}
 use borrow.Author.Tests.{eq-eqb, ne-eqb}
 use Rattle.accept.specs.Lines.{pointFits, startsAtZero, pointRises}
+use borrow.Author.Needs.{needs}
 use Rattle.accept.proofs.point_fits.Statement.{statement}
 use Rattle.accept.proofs.point_fits.Tie as tie
 

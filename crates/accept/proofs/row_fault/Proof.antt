@@ -1,6 +1,6 @@
 -- `accept::row_fault` meets its contract: the ranges first, then the rules. Assumes nothing.
-use borrow.Author.Needs.{needs}
 use Rattle.accept.specs.Lines.{rowFault}
+use borrow.Author.Needs.{needs}
 use Rattle.accept.proofs.row_fault.Statement.{statement}
 use Rattle.accept.proofs.row_fault.Tie as tie
 

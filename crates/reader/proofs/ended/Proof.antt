@@ -1,7 +1,7 @@
 -- `reader::ended` meets its contract: a line feed, or a bad line. Assumes nothing.
-use borrow.Author.Needs.{needs}
 use mathlib.Core.Path.{sym, _∙_, refl}
 use Rattle.units.proofs.Steps.{pick-yes, pick-not}
+use borrow.Author.Needs.{needs}
 use Rattle.reader.proofs.ended.Statement.{statement}
 use Rattle.reader.proofs.ended.Tie as tie
 
@@ -14,26 +14,20 @@ after-requires c κs = search needs
 enum-told : tie.Need-enum-told
 enum-told c = search needs
 
-so-far-requires : tie.Need-so-far-requires
-so-far-requires c κs = search needs
-
 enum-known-q : tie.Need-enum-known-q
 enum-known-q c = search needs
 
-so-far-requires-2 : tie.Need-so-far-requires-2
-so-far-requires-2 c κs = search needs
-
 returns : tie.Need-returns
 returns c =
-    pick-yes _ _ _ _ (c .before .before .before .before .before .before .if1 .taken) (rw (sym (c .before .before .before .after .ensures) ∙ c .before .enum-told .given .1) (c .so-far .ensures))
+    λ v. pick-yes _ _ _ _ (c .before .before .before .before .if1 .taken) (rw (sym (c .before .before .after .ensures) ∙ c .enum-told .given .1) refl)
 
 returns-2 : tie.Need-returns-2
 returns-2 c =
-    pick-yes _ _ _ _ (c .before .before .before .before .before .before .before .if1 .taken) (rw (sym (c .before .before .before .before .after .ensures) ∙ c .before .before .q .given .1) (c .so-far2 .ensures))
+    λ v. pick-yes _ _ _ _ (c .before .before .before .before .before .if1 .taken) (rw (sym (c .before .before .before .after .ensures) ∙ c .before .q .given .1) refl)
 
 returns-3 : tie.Need-returns-3
 returns-3 c =
-    pick-not _ _ _ _ (c .if1 .left) refl
+    λ v. pick-not _ _ _ _ (c .if1 .left) refl
 
 pub ended-spec : {M : Type 1} → statement M
 ended-spec =
@@ -42,9 +36,7 @@ ended-spec =
     slice-aggregate-after
     after-requires
     enum-told
-    so-far-requires
     enum-known-q
-    so-far-requires-2
     returns
     returns-2
     returns-3)

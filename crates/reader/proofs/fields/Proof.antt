@@ -1,10 +1,10 @@
 -- `reader::fields` meets its contract: at each turn the numbers left are read as all are. Assumes nothing.
-use borrow.Author.Needs.{needs}
 use Prim.Native.Nat.{_-_}
 use mathlib.Core.Path.{_≡_, sym, _∙_}
 use native.Mathlib.Nat.{sub-zero}
 use Rattle.reader.specs.Line.{fields}
 use Rattle.reader.proofs.Cases.{fields-end, fields-no-mark, fields-no-number, fields-step}
+use borrow.Author.Needs.{needs}
 use Rattle.reader.proofs.fields.Statement.{statement}
 use Rattle.reader.proofs.fields.Tie as tie
 
@@ -24,12 +24,9 @@ mark-requires c κs = search needs
 enum-told : tie.Need-enum-told Inv-loop μ-loop
 enum-told c = search needs
 
-so-far-requires : tie.Need-so-far-requires Inv-loop μ-loop
-so-far-requires c κs = search needs
-
 returns : tie.Need-returns Inv-loop μ-loop
 returns c =
-    c .so-far .ensures ∙ sym (fields-no-mark (c .before .before .before .before .before .before .before .args .s .now) (c .before .before .before .before .before .before .before .args .form) (c .before .before .before .before .before .before .before .args .place) (c .before .before .before .before .before .before .before .args .n) (c .before .before .before .before .before .loop .j) (c .before .before .before .before .before .loop .p) (c .before .before .before .before .before .loop .v) (c .before .before .before .before .loop-test .taken) (sym (c .before .before .before .mark .ensures) ∙ c .before .enum-told .given .1)) ∙ c .before .before .before .before .before .loop .inv
+    sym (fields-no-mark (c .before .before .before .before .before .before .args .s .now) (c .before .before .before .before .before .before .args .form) (c .before .before .before .before .before .before .args .place) (c .before .before .before .before .before .before .args .n) (c .before .before .before .before .loop .j) (c .before .before .before .before .loop .p) (c .before .before .before .before .loop .v) (c .before .before .before .loop-test .taken) (sym (c .before .before .mark .ensures) ∙ c .enum-told .given .1)) ∙ c .before .before .before .before .loop .inv
 
 enum-known-q : tie.Need-enum-known-q Inv-loop μ-loop
 enum-known-q c = search needs
@@ -40,12 +37,9 @@ field-requires c κs = search needs
 enum-told-2 : tie.Need-enum-told-2 Inv-loop μ-loop
 enum-told-2 c = search needs
 
-so-far-requires-2 : tie.Need-so-far-requires-2 Inv-loop μ-loop
-so-far-requires-2 c κs = search needs
-
 returns-2 : tie.Need-returns-2 Inv-loop μ-loop
 returns-2 c =
-    c .so-far2 .ensures ∙ sym (fields-no-number (c .before .before .before .before .before .before .before .before .before .before .before .args .s .now) (c .before .before .before .before .before .before .before .before .before .before .before .args .form) (c .before .before .before .before .before .before .before .before .before .before .before .args .place) (c .before .before .before .before .before .before .before .before .before .before .before .args .n) (c .before .before .before .before .before .before .before .before .before .loop .j) (c .before .before .before .before .before .before .before .before .before .loop .p) (c .before .before .before .before .before .before .before .before .before .loop .v) (c .before .before .before .before .before .q .given .0 .0) (c .before .before .before .before .before .before .before .before .loop-test .taken) (sym (c .before .before .before .before .before .before .before .mark .ensures) ∙ c .before .before .before .before .before .q .given .1) (sym (c .before .before .before .field .ensures) ∙ c .before .enum-told2 .given .1)) ∙ c .before .before .before .before .before .before .before .before .before .loop .inv
+    sym (fields-no-number (c .before .before .before .before .before .before .before .before .before .before .args .s .now) (c .before .before .before .before .before .before .before .before .before .before .args .form) (c .before .before .before .before .before .before .before .before .before .before .args .place) (c .before .before .before .before .before .before .before .before .before .before .args .n) (c .before .before .before .before .before .before .before .before .loop .j) (c .before .before .before .before .before .before .before .before .loop .p) (c .before .before .before .before .before .before .before .before .loop .v) (c .before .before .before .before .q .given .0 .0) (c .before .before .before .before .before .before .before .loop-test .taken) (sym (c .before .before .before .before .before .before .mark .ensures) ∙ c .before .before .before .before .q .given .1) (sym (c .before .before .field .ensures) ∙ c .enum-told2 .given .1)) ∙ c .before .before .before .before .before .before .before .before .loop .inv
 
 enum-known-x : tie.Need-enum-known-x Inv-loop μ-loop
 enum-known-x c = search needs
@@ -56,8 +50,8 @@ add-e c = search needs
 mul-v : tie.Need-mul-v Inv-loop μ-loop
 mul-v c = search needs
 
-array-write-v : tie.Need-array-write-v Inv-loop μ-loop
-array-write-v c = search needs
+element-write-v : tie.Need-element-write-v Inv-loop μ-loop
+element-write-v c = search needs
 
 add-j : tie.Need-add-j Inv-loop μ-loop
 add-j c = search needs
@@ -69,12 +63,9 @@ loop-again : tie.Need-loop-again Inv-loop μ-loop
 loop-again c =
     sym (fields-step (c .before .before .before .before .before .before .before .before .before .before .before .args .s .now) (c .before .before .before .before .before .before .before .before .before .before .before .args .form) (c .before .before .before .before .before .before .before .before .before .before .before .args .place) (c .before .before .before .before .before .before .before .before .before .before .before .args .n) (c .before .before .before .before .before .before .before .before .before .loop .j) (c .before .before .before .before .before .before .before .before .before .loop .p) (c .before .before .before .before .before .before .before .before .before .loop .v) (c .before .before .before .before .before .q .given .0 .0) (c .before .x .given .0 .0) (c .before .x .given .0 .1 .0) (c .before .before .before .before .before .before .before .before .loop-test .taken) (sym (c .before .before .before .before .before .before .before .mark .ensures) ∙ c .before .before .before .before .before .q .given .1) (sym (c .before .before .before .field .ensures) ∙ c .before .x .given .1)) ∙ c .before .before .before .before .before .before .before .before .before .loop .inv
 
-so-far-requires-3 : tie.Need-so-far-requires-3 Inv-loop μ-loop
-so-far-requires-3 c κs = search needs
-
 returns-3 : tie.Need-returns-3 Inv-loop μ-loop
 returns-3 c =
-    c .so-far3 .ensures ∙ sym (fields-end (c .before .before .before .before .args .s .now) (c .before .before .before .before .args .form) (c .before .before .before .before .args .place) (c .before .before .before .before .args .n) (c .before .before .loop .j) (c .before .before .loop .p) (c .before .before .loop .v) (c .before .loop-test .left)) ∙ c .before .before .loop .inv
+    sym (fields-end (c .before .before .before .args .s .now) (c .before .before .before .args .form) (c .before .before .before .args .place) (c .before .before .before .args .n) (c .before .loop .j) (c .before .loop .p) (c .before .loop .v) (c .loop-test .left)) ∙ c .before .loop .inv
 
 pub fields-spec : {M : Type 1} → statement M
 fields-spec =
@@ -85,19 +76,16 @@ fields-spec =
     loop-holds
     mark-requires
     enum-told
-    so-far-requires
     returns
     enum-known-q
     field-requires
     enum-told-2
-    so-far-requires-2
     returns-2
     enum-known-x
     add-e
     mul-v
-    array-write-v
+    element-write-v
     add-j
     loop-less
     loop-again
-    so-far-requires-3
     returns-3)

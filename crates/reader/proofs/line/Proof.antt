@@ -1,10 +1,9 @@
 -- `reader::line` meets its contract: the key, then the numbers and the line feed. Assumes nothing.
-use borrow.Author.Needs.{needs}
-use native.Mathlib.Omega.{arith}
-use mathlib.Core.Path.{sym, _∙_, ap}
+use mathlib.Core.Path.{sym, _∙_, ap, refl}
 use Rattle.rows.proofs.Tables.{place-room}
-use Rattle.reader.specs.declared.Taken.{Taken}
-use Rattle.reader.specs.Line.{fields, ended, lineAt}
+use Rattle.reader.specs.Line.{Taken, fields, ended, lineAt}
+use native.Mathlib.Omega.{arith}
+use borrow.Author.Needs.{needs}
 use Rattle.reader.proofs.line.Statement.{statement}
 use Rattle.reader.proofs.line.Tie as tie
 
@@ -23,15 +22,12 @@ key-requires c κs = search needs
 enum-told : tie.Need-enum-told
 enum-told c = search needs
 
-so-far-requires : tie.Need-so-far-requires
-so-far-requires c κs = search needs
-
 enum-known-p : tie.Need-enum-known-p
 enum-known-p c = search needs
 
 fields-requires : tie.Need-fields-requires
 fields-requires c κs =
-    omega (arith, place-room (c .before .before .before .before .before .before .before .before .args .row) (c .before .before .before .before .before .before .before .before .pre), c .before .before .before .before .before .place .ensures, c .before .before .before .before .width .ensures)
+    omega (arith, place-room (c .before .before .before .before .before .before .before .before .before .args .row) (c .before .before .before .before .before .before .before .before .before .pre), c .before .before .before .before .before .before .place .ensures, c .before .before .before .before .before .width .ensures)
 
 ended-requires : tie.Need-ended-requires
 ended-requires c κs = search needs
@@ -39,13 +35,13 @@ ended-requires c κs = search needs
 returns : tie.Need-returns
 unfolding lineAt
 returns c =
-    rw (sym (c .before .before .before .key .ensures) ∙ c .before .enum-told .given .1) (c .so-far .ensures)
+    rw (sym (c .before .before .key .ensures) ∙ c .enum-told .given .1) refl
 
 returns-2 : tie.Need-returns-2
 unfolding lineAt
 returns-2 c =
-    let taken = c .before .fields .ensures ∙ λ i. fields (c .before .before .before .before .before .before .before .before .before .before .args .s .now) (c .before .before .before .before .before .before .before .before .form .ensures i) (c .before .before .before .before .before .before .before .place .ensures i) (c .before .before .before .before .before .before .width .ensures i) 0 (c .before .before .before .p .given .0 .0) (c .before .before .before .before .before .before .before .before .before .before .args .numbers) in
-    rw (sym (c .before .before .before .before .before .key .ensures) ∙ c .before .before .before .p .given .1) (c .ended .ensures ∙ ap (λ (t : Taken). ended (c .before .before .before .before .before .before .before .before .before .before .args .s .now) t) taken)
+    let taken = c .before .fields .ensures ∙ λ i. fields (c .before .before .before .before .before .before .before .before .before .before .before .args .s .now) (c .before .before .before .before .before .before .before .before .before .form .ensures i) (c .before .before .before .before .before .before .before .before .place .ensures i) (c .before .before .before .before .before .before .before .width .ensures i) 0 (c .before .before .before .before .p .given .0 .0) (c .before .before .before .before .before .before .before .before .before .before .before .args .v .now) in
+    rw (sym (c .before .before .before .before .before .before .key .ensures) ∙ c .before .before .before .before .p .given .1) (c .ended .ensures (c .before .fields .last .1 .1 .1 .1 .1 .0) ∙ ap (λ (t : Taken). ended (c .before .before .before .before .before .before .before .before .before .before .before .args .s .now) t) taken)
 
 pub line-spec : {M : Type 1} → statement M
 line-spec =
@@ -56,7 +52,6 @@ line-spec =
     width-requires
     key-requires
     enum-told
-    so-far-requires
     enum-known-p
     fields-requires
     ended-requires

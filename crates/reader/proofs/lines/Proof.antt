@@ -1,16 +1,15 @@
 -- `reader::lines` meets its contract: at each turn the rows left are read as all are. Assumes nothing.
-use borrow.Author.Needs.{needs}
-use native.Mathlib.Omega.{arith}
 use Prim.Native.Nat.{_+_, _≤_, _-_}
 use mathlib.Core.Path.{_≡_, refl, sym, _∙_}
-use lib.ListN.{replicate}
-use Rattle.reader.specs.Read.{linesFrom}
+use Rattle.reader.specs.Read.{step, linesFrom}
 use Rattle.reader.proofs.Cases.{lines-end, lines-absent, lines-bad, lines-step}
+use borrow.Author.Needs.{needs}
+use native.Mathlib.Omega.{arith}
 use Rattle.reader.proofs.lines.Statement.{statement}
 use Rattle.reader.proofs.lines.Tie as tie
 
 abbrev Inv-loop : tie.InvT-loop
-Inv-loop s v₀ at₀ number₀ row₀ v at number row = (row ≤ 45) × (number ≤ row + 1) × (linesFrom s (45 - row) row number at v ≡ linesFrom s 45 0 1 0 (replicate 118 0))
+Inv-loop s v₀ at₀ number₀ row₀ v at number row = (row ≤ 45) × (number ≤ row + 1) × (linesFrom s (45 - row) row number at v ≡ linesFrom s 45 0 1 0 v₀)
 
 abbrev μ-loop : tie.MeasureT-loop
 μ-loop s v₀ at₀ number₀ row₀ v at number row = 45 - row
@@ -40,11 +39,11 @@ loop-less c = search needs
 
 loop-again : tie.Need-loop-again Inv-loop μ-loop
 loop-again c =
-    (omega arith, omega arith, sym (lines-step (c .before .before .before .before .before .before .before .before .before .args .s .now) (c .before .before .before .before .before .before .before .loop .row) (c .before .before .before .before .before .before .before .loop .number) (c .before .before .before .before .before .before .before .loop .at) (c .before .before .before .before .before .before .before .loop .v) (c .before .before .before .judged .result) (c .before .before .before .judged .ensures) (omega arith) (sym (c .before .before .before .before .before .present .ensures) ∙ c .before .before .before .before .if1 .taken) (sym (c .before .before .is-fine .ensures) ∙ c .before .if2 .taken)) ∙ c .before .before .before .before .before .before .before .loop .inv .2)
+    (omega arith, omega arith, sym (lines-step (c .before .before .before .before .before .before .before .before .before .before .args .s .now) (c .before .before .before .before .before .before .before .before .loop .row) (c .before .before .before .before .before .before .before .before .loop .number) (c .before .before .before .before .before .before .before .before .loop .at) (c .before .before .before .before .before .before .before .before .loop .v) (step (c .before .before .judged .result .answer) (c .before .before .judged .result .next) (c .before .before .judged .last .1 .1 .1 .1 .0)) (c .before .before .judged .ensures) (omega arith) (sym (c .before .before .before .before .before .present .ensures) ∙ c .before .before .before .before .if1 .taken) (sym (c .before .is-fine .ensures) ∙ c .if2 .taken)) ∙ c .before .before .before .before .before .before .before .before .loop .inv .2)
 
 returns : tie.Need-returns Inv-loop μ-loop
 returns c =
-    sym (lines-bad (c .before .before .before .before .before .before .before .before .args .s .now) (c .before .before .before .before .before .before .loop .row) (c .before .before .before .before .before .before .loop .number) (c .before .before .before .before .before .before .loop .at) (c .before .before .before .before .before .before .loop .v) (c .before .before .judged .result) (c .before .before .judged .ensures) (omega arith) (sym (c .before .before .before .before .present .ensures) ∙ c .before .before .before .if1 .taken) (sym (c .before .is-fine .ensures) ∙ c .if2 .left)) ∙ c .before .before .before .before .before .before .loop .inv .2
+    sym (lines-bad (c .before .before .before .before .before .before .before .before .before .before .args .s .now) (c .before .before .before .before .before .before .before .before .loop .row) (c .before .before .before .before .before .before .before .before .loop .number) (c .before .before .before .before .before .before .before .before .loop .at) (c .before .before .before .before .before .before .before .before .loop .v) (step (c .before .before .judged .result .answer) (c .before .before .judged .result .next) (c .before .before .judged .last .1 .1 .1 .1 .0)) (c .before .before .judged .ensures) (omega arith) (sym (c .before .before .before .before .before .present .ensures) ∙ c .before .before .before .before .if1 .taken) (sym (c .before .is-fine .ensures) ∙ c .if2 .left)) ∙ c .before .before .before .before .before .before .before .before .loop .inv .2
 
 add-row-2 : tie.Need-add-row-2 Inv-loop μ-loop
 add-row-2 c = search needs
@@ -54,14 +53,14 @@ loop-less-2 c = search needs
 
 loop-again-2 : tie.Need-loop-again-2 Inv-loop μ-loop
 loop-again-2 c =
-    (omega arith, omega arith, sym (lines-absent (c .before .before .before .before .before .args .s .now) (c .before .before .before .loop .row) (c .before .before .before .loop .number) (c .before .before .before .loop .at) (c .before .before .before .loop .v) (omega arith) (sym (c .before .present .ensures) ∙ c .if1 .left)) ∙ c .before .before .before .loop .inv .2)
+    (omega arith, omega arith, sym (lines-absent (c .before .before .before .before .before .before .args .s .now) (c .before .before .before .before .loop .row) (c .before .before .before .before .loop .number) (c .before .before .before .before .loop .at) (c .before .before .before .before .loop .v) (omega arith) (sym (c .before .present .ensures) ∙ c .if1 .left)) ∙ c .before .before .before .before .loop .inv .2)
 
 end-requires : tie.Need-end-requires Inv-loop μ-loop
 end-requires c κs = search needs
 
 returns-2 : tie.Need-returns-2 Inv-loop μ-loop
 returns-2 c =
-    c .end .ensures ∙ sym (lines-end (c .before .before .before .before .args .s .now) (c .before .before .loop .row) (c .before .before .loop .number) (c .before .before .loop .at) (c .before .before .loop .v) (omega arith)) ∙ c .before .before .loop .inv .2
+    c .end .ensures (c .before .before .loop .v) ∙ sym (lines-end (c .before .before .before .before .args .s .now) (c .before .before .loop .row) (c .before .before .loop .number) (c .before .before .loop .at) (c .before .before .loop .v) (omega arith)) ∙ c .before .before .loop .inv .2
 
 pub lines-spec : {M : Type 1} → statement M
 lines-spec =

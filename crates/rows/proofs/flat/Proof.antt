@@ -1,11 +1,11 @@
 -- `rows::flat` meets its contract: the stores at their places are the numbers in the rows' order. Assumes nothing.
 use mathlib.Core.Path.{_∙_, ap}
-use borrow.Author.Needs.{needs}
 use mir.Syntax.{w16}
 use mir.Val.{SFits}
 use mir.Facts.{toZ-ofZ}
 use Rattle.rows.specs.Flat.{gradeNumber}
 use Rattle.rows.proofs.Stored.{stored}
+use borrow.Author.Needs.{needs}
 use Rattle.rows.proofs.flat.Statement.{statement}
 use Rattle.rows.proofs.flat.Tie as tie
 
@@ -89,8 +89,8 @@ with-points-requires c κs = search needs
 
 returns : tie.Need-returns
 returns c =
-    let f : SFits w16 (c .before .before .before .before .before .before .before .args .s .grade) = search needs in
-    stored (c .before .before .before .before .before .before .before .args .s) _ _ _ _ (c .before .before .before .before .vehicle-number .ensures) (c .before .before .grade-number .ensures ∙ ap gradeNumber (toZ-ofZ f)) (c .before .with-phases .ensures) (c .with-points .ensures)
+    let f : SFits w16 (c .before .before .before .before .before .before .before .before .before .args .s .grade) = search needs in
+    stored (c .before .before .before .before .before .before .before .before .before .args .s) _ _ _ _ (c .before .before .before .before .before .before .vehicle-number .ensures) (c .before .before .before .before .grade-number .ensures ∙ ap gradeNumber (toZ-ofZ f)) (c .before .before .with-phases .ensures) (c .with-points .ensures)
 
 pub flat-spec : {M : Type 1} → statement M
 flat-spec =

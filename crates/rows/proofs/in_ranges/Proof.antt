@@ -1,20 +1,20 @@
 -- `rows::in_ranges` meets its contract: at each turn the numbers left decide as all of them do. Assumes nothing.
 use mathlib.Core.Path.{_≡_, refl, sym, _∙_}
 use Prim.Native.Nat.{_+_, _-_, _≤_}
-use native.Mathlib.Omega.{arith}
 use lib.ListN.{drop}
-use borrow.Author.Needs.{needs}
 use Rattle.rows.specs.Table.{rangesOf, widthOf, placeOf, inRanges}
 use Rattle.rows.proofs.Tables.{ranges-past, place-room}
 use Rattle.rows.proofs.Ranges.{in-step, in-stop, in-end}
+use borrow.Author.Needs.{needs}
+use native.Mathlib.Omega.{arith}
 use Rattle.rows.proofs.in_ranges.Statement.{statement}
 use Rattle.rows.proofs.in_ranges.Tie as tie
 
 abbrev Inv-loop : tie.InvT-loop
-Inv-loop row numbers at n j₀ j = (j ≤ n) × (inRanges numbers (at + j) (drop j (rangesOf row)) ≡ inRanges numbers (placeOf row) (rangesOf row))
+Inv-loop numbers row at n j₀ j = (j ≤ n) × (inRanges numbers (at + j) (drop j (rangesOf row)) ≡ inRanges numbers (placeOf row) (rangesOf row))
 
 abbrev μ-loop : tie.MeasureT-loop
-μ-loop row numbers at n j₀ j = n - j
+μ-loop numbers row at n j₀ j = n - j
 
 returns : tie.Need-returns Inv-loop μ-loop
 unfolding inRanges
@@ -39,8 +39,8 @@ mul-in-range : tie.Need-mul-in-range Inv-loop μ-loop
 mul-in-range c =
     omega (arith, place-room (c .before .before .before .before .before .args .row) (omega arith), c .before .before .before .place .ensures, c .before .before .width .ensures)
 
-array-read-in-range : tie.Need-array-read-in-range Inv-loop μ-loop
-array-read-in-range c =
+element-copy-out-in-range : tie.Need-element-copy-out-in-range Inv-loop μ-loop
+element-copy-out-in-range c =
     omega (arith, place-room (c .before .before .before .before .before .args .row) (omega arith), c .before .before .before .place .ensures, c .before .before .width .ensures)
 
 in-range-requires : tie.Need-in-range-requires Inv-loop μ-loop
@@ -55,17 +55,17 @@ loop-less c = search needs
 loop-again : tie.Need-loop-again Inv-loop μ-loop
 unfolding widthOf
 loop-again c =
-    (omega arith, sym (in-step (c .before .before .before .before .before .before .before .args .t1) (c .before .before .before .before .before .place .result) (rangesOf (c .before .before .before .before .before .before .before .args .row)) (c .before .before .before .loop .j) (omega (arith, c .before .before .before .before .width .ensures)) (sym (c .before .in-range .ensures) ∙ c .if2 .taken)) ∙ c .before .before .before .loop .inv .1)
+    (omega arith, sym (in-step (c .before .before .before .before .before .before .before .before .args .numbers .now) (c .before .before .before .before .before .before .place .result) (rangesOf (c .before .before .before .before .before .before .before .before .args .row)) (c .before .before .before .before .loop .j) (omega (arith, c .before .before .before .before .before .width .ensures)) (sym (c .before .in-range .ensures) ∙ c .if2 .taken)) ∙ c .before .before .before .before .loop .inv .1)
 
 returns-2 : tie.Need-returns-2 Inv-loop μ-loop
 unfolding widthOf
 returns-2 c =
-    sym (in-stop (c .before .before .before .before .before .before .before .args .t1) (c .before .before .before .before .before .place .result) (rangesOf (c .before .before .before .before .before .before .before .args .row)) (c .before .before .before .loop .j) (omega (arith, c .before .before .before .before .width .ensures)) (sym (c .before .in-range .ensures) ∙ c .if2 .left)) ∙ c .before .before .before .loop .inv .1
+    sym (in-stop (c .before .before .before .before .before .before .before .before .args .numbers .now) (c .before .before .before .before .before .before .place .result) (rangesOf (c .before .before .before .before .before .before .before .before .args .row)) (c .before .before .before .before .loop .j) (omega (arith, c .before .before .before .before .before .width .ensures)) (sym (c .before .in-range .ensures) ∙ c .if2 .left)) ∙ c .before .before .before .before .loop .inv .1
 
 returns-3 : tie.Need-returns-3 Inv-loop μ-loop
 unfolding widthOf
 returns-3 c =
-    sym (in-end (c .before .before .before .before .before .args .t1) (c .before .before .before .place .result) (rangesOf (c .before .before .before .before .before .args .row)) (c .before .loop .j) (omega (arith, c .before .before .width .ensures))) ∙ c .before .loop .inv .1
+    sym (in-end (c .before .before .before .before .before .args .numbers .now) (c .before .before .before .place .result) (rangesOf (c .before .before .before .before .before .args .row)) (c .before .loop .j) (omega (arith, c .before .before .width .ensures))) ∙ c .before .loop .inv .1
 
 pub in-ranges-spec : {M : Type 1} → statement M
 in-ranges-spec =
@@ -79,7 +79,7 @@ in-ranges-spec =
     loop-holds
     add-in-range
     mul-in-range
-    array-read-in-range
+    element-copy-out-in-range
     in-range-requires
     add-j
     loop-less

@@ -1,12 +1,12 @@
 -- `rows::points_of` meets its contract: at each turn the stored entries and those to come are all of them. Assumes nothing.
-use borrow.Author.Needs.{needs}
-use native.Mathlib.Omega.{arith}
 use mathlib.Core.Path.{_≡_, refl, _∙_}
 use mathlib.Core.List.{_++_}
 use Prim.Native.Nat.{_-_, _≤_}
 use lib.ListN.{length, take}
 use Rattle.rows.specs.Flat.{pointAt, entriesFrom}
 use Rattle.rows.proofs.Entries.{next-stored, nothing-left}
+use borrow.Author.Needs.{needs}
+use native.Mathlib.Omega.{arith}
 use Rattle.rows.proofs.points_of.Statement.{statement}
 use Rattle.rows.proofs.points_of.Tie as tie
 
@@ -40,11 +40,11 @@ loop-less c = search needs
 
 loop-again : tie.Need-loop-again Inv-loop μ-loop
 loop-again c =
-    (omega arith, search needs, rw (c .point-at .ensures) (next-stored (pointAt (c .before .before .before .before .args .numbers)) 16 (c .before .before .loop .i) (c .before .before .loop .points) (c .before .before .loop .inv .1) (omega arith) ∙ c .before .before .loop .inv .2))
+    (omega arith, search needs, rw (c .point-at .ensures) (next-stored (pointAt (c .before .before .before .before .args .numbers .now)) 16 (c .before .before .loop .i) (c .before .before .loop .points) (c .before .before .loop .inv .1) (omega arith) ∙ c .before .before .loop .inv .2))
 
 returns : tie.Need-returns Inv-loop μ-loop
 returns c =
-    nothing-left (pointAt (c .before .before .before .args .numbers)) 16 (c .before .loop .i) (c .before .loop .points) _ (c .before .loop .inv .1) (omega arith) (c .before .loop .inv .2)
+    nothing-left (pointAt (c .before .before .before .args .numbers .now)) 16 (c .before .loop .i) (c .before .loop .points) _ (c .before .loop .inv .1) (omega arith) (c .before .loop .inv .2)
 
 pub points-of-spec : {M : Type 1} → statement M
 points-of-spec =

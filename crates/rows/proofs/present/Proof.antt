@@ -1,7 +1,7 @@
 -- `rows::present` meets its contract, branch by branch. Assumes nothing.
 use Rattle.units.proofs.Steps.{steps}
-use borrow.Author.Needs.{needs}
 use Rattle.rows.specs.Table.{present}
+use borrow.Author.Needs.{needs}
 use Rattle.rows.proofs.present.Statement.{statement}
 use Rattle.rows.proofs.present.Tie as tie
 
@@ -10,42 +10,42 @@ unfolding present
 returns c =
     search steps
 
-array-read-result : tie.Need-array-read-result
-array-read-result c = search needs
+element-copy-out-wide : tie.Need-element-copy-out-wide
+element-copy-out-wide c = search needs
 
-cast-result : tie.Need-cast-result
-cast-result c = search needs
+wide-requires : tie.Need-wide-requires
+wide-requires c κs = search needs
 
 returns-2 : tie.Need-returns-2
 unfolding present
 returns-2 c =
-    search steps
+    rw (c .wide .ensures) (search steps)
 
 returns-3 : tie.Need-returns-3
 unfolding present
 returns-3 c =
     search steps
 
-array-read-result-2 : tie.Need-array-read-result-2
-array-read-result-2 c = search needs
+element-copy-out-wide-2 : tie.Need-element-copy-out-wide-2
+element-copy-out-wide-2 c = search needs
 
-cast-result-2 : tie.Need-cast-result-2
-cast-result-2 c = search needs
+wide-requires-2 : tie.Need-wide-requires-2
+wide-requires-2 c κs = search needs
 
 returns-4 : tie.Need-returns-4
 unfolding present
 returns-4 c =
-    search steps
+    rw (c .wide2 .ensures) (search steps)
 
 pub present-spec : {M : Type 1} → statement M
 present-spec =
     tie.close
     (tie.spec
     returns
-    array-read-result
-    cast-result
+    element-copy-out-wide
+    wide-requires
     returns-2
     returns-3
-    array-read-result-2
-    cast-result-2
+    element-copy-out-wide-2
+    wide-requires-2
     returns-4)

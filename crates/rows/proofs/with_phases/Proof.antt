@@ -1,20 +1,20 @@
 -- `rows::with_phases` meets its contract: at each turn the entries left come to the same numbers. Assumes nothing.
 use mathlib.Core.Path.{_≡_, refl, sym, _∙_}
 use Prim.Native.Nat.{_+_, _-_, _*_, _≤_}
-use native.Mathlib.Omega.{arith}
 use lib.Seq.{sets}
-use borrow.Author.Needs.{needs}
 use Rattle.sheet.specs.Zero.{zeroPhase}
 use Rattle.rows.specs.Flat.{phaseNumbers, numbersFrom}
 use Rattle.rows.proofs.Numbers.{next-entry}
+use borrow.Author.Needs.{needs}
+use native.Mathlib.Omega.{arith}
 use Rattle.rows.proofs.with_phases.Statement.{statement}
 use Rattle.rows.proofs.with_phases.Tie as tie
 
 abbrev Inv-loop : tie.InvT-loop
-Inv-loop phases v₀ i₀ v i = (i ≤ 8) × (sets v (6 + 8 * i) (numbersFrom phaseNumbers zeroPhase (8 - i) i phases) ≡ sets v₀ 6 (numbersFrom phaseNumbers zeroPhase 8 0 phases))
+Inv-loop v₀ phases i₀ v i = (i ≤ 8) × (sets v (6 + 8 * i) (numbersFrom phaseNumbers zeroPhase (8 - i) i phases) ≡ sets v₀ 6 (numbersFrom phaseNumbers zeroPhase 8 0 phases))
 
 abbrev μ-loop : tie.MeasureT-loop
-μ-loop phases v₀ i₀ v i = 8 - i
+μ-loop v₀ phases i₀ v i = 8 - i
 
 loop-holds : tie.Need-loop-holds Inv-loop μ-loop
 loop-holds c =
@@ -43,7 +43,7 @@ loop-less c = search needs
 
 loop-again : tie.Need-loop-again Inv-loop μ-loop
 loop-again c =
-    (omega arith, rw (c .with-phase .ensures) (sym (next-entry phaseNumbers zeroPhase (c .before .before .before .before .args .t2) (c .before .before .before .loop .v) 6 8 8 (c .before .before .before .loop .i) (omega arith) refl) ∙ c .before .before .before .loop .inv .1))
+    (omega arith, rw (c .with-phase .ensures) (sym (next-entry phaseNumbers zeroPhase (c .before .before .before .before .before .args .t2) (c .before .before .before .before .loop .v) 6 8 8 (c .before .before .before .before .loop .i) (omega arith) refl) ∙ c .before .before .before .before .loop .inv .1))
 
 returns : tie.Need-returns Inv-loop μ-loop
 unfolding numbersFrom

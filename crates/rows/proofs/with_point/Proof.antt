@@ -7,8 +7,8 @@ use Rattle.rows.proofs.with_point.Tie as tie
 mul-v : tie.Need-mul-v
 mul-v c = search needs
 
-array-write-v : tie.Need-array-write-v
-array-write-v c = search needs
+element-write-v : tie.Need-element-write-v
+element-write-v c = search needs
 
 add-v : tie.Need-add-v
 add-v c = search needs
@@ -16,12 +16,13 @@ add-v c = search needs
 mul-v-2 : tie.Need-mul-v-2
 mul-v-2 c = search needs
 
-array-write-v-2 : tie.Need-array-write-v-2
-array-write-v-2 c = search needs
+element-write-v-2 : tie.Need-element-write-v-2
+element-write-v-2 c = search needs
 
 returns : tie.Need-returns
 returns c =
-    two (c .args .numbers) (c .args .at) (c .args .p .feet) (c .args .p .tenths)
+    two (c .args .v .now) (c .args .at) (c .args .p .feet) (c .args .p .tenths)
 
 pub with-point-spec : {M : Type 1} → statement M
-with-point-spec = tie.close (tie.spec mul-v array-write-v add-v mul-v-2 array-write-v-2 returns)
+with-point-spec =
+    tie.close (tie.spec mul-v element-write-v add-v mul-v-2 element-write-v-2 returns)

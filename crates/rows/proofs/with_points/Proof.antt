@@ -1,20 +1,20 @@
 -- `rows::with_points` meets its contract: at each turn the entries left come to the same numbers. Assumes nothing.
 use mathlib.Core.Path.{_≡_, refl, sym, _∙_}
 use Prim.Native.Nat.{_+_, _-_, _*_, _≤_}
-use native.Mathlib.Omega.{arith}
 use lib.Seq.{sets}
-use borrow.Author.Needs.{needs}
 use Rattle.sheet.specs.Zero.{zeroPoint}
 use Rattle.rows.specs.Flat.{pointNumbers, numbersFrom}
 use Rattle.rows.proofs.Numbers.{next-entry}
+use borrow.Author.Needs.{needs}
+use native.Mathlib.Omega.{arith}
 use Rattle.rows.proofs.with_points.Statement.{statement}
 use Rattle.rows.proofs.with_points.Tie as tie
 
 abbrev Inv-loop : tie.InvT-loop
-Inv-loop points v₀ i₀ v i = (i ≤ 16) × (sets v (86 + 2 * i) (numbersFrom pointNumbers zeroPoint (16 - i) i points) ≡ sets v₀ 86 (numbersFrom pointNumbers zeroPoint 16 0 points))
+Inv-loop v₀ points i₀ v i = (i ≤ 16) × (sets v (86 + 2 * i) (numbersFrom pointNumbers zeroPoint (16 - i) i points) ≡ sets v₀ 86 (numbersFrom pointNumbers zeroPoint 16 0 points))
 
 abbrev μ-loop : tie.MeasureT-loop
-μ-loop points v₀ i₀ v i = 16 - i
+μ-loop v₀ points i₀ v i = 16 - i
 
 loop-holds : tie.Need-loop-holds Inv-loop μ-loop
 loop-holds c =
@@ -43,7 +43,7 @@ loop-less c = search needs
 
 loop-again : tie.Need-loop-again Inv-loop μ-loop
 loop-again c =
-    (omega arith, rw (c .with-point .ensures) (sym (next-entry pointNumbers zeroPoint (c .before .before .before .before .args .t2) (c .before .before .before .loop .v) 86 2 16 (c .before .before .before .loop .i) (omega arith) refl) ∙ c .before .before .before .loop .inv .1))
+    (omega arith, rw (c .with-point .ensures) (sym (next-entry pointNumbers zeroPoint (c .before .before .before .before .before .args .t2) (c .before .before .before .before .loop .v) 86 2 16 (c .before .before .before .before .loop .i) (omega arith) refl) ∙ c .before .before .before .before .loop .inv .1))
 
 returns : tie.Need-returns Inv-loop μ-loop
 unfolding numbersFrom

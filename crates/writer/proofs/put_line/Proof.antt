@@ -1,10 +1,10 @@
 -- `writer::put_line` meets its contract: the key, the numbers, the line feed. Assumes nothing.
-use borrow.Author.Needs.{needs}
-use native.Mathlib.Omega.{arith}
 use Rattle.rows.proofs.Tables.{place-room}
 use Rattle.writer.specs.Text.{rowText}
 use Rattle.writer.proofs.Puts.{put-length, put-then}
 use Rattle.writer.proofs.Lengths.{short-key, short-fields, eight-each}
+use native.Mathlib.Omega.{arith}
+use borrow.Author.Needs.{needs}
 use Rattle.writer.proofs.put_line.Statement.{statement}
 use Rattle.writer.proofs.put_line.Tie as tie
 
@@ -26,7 +26,7 @@ put-fields-requires c κs =
 
 put-requires : tie.Need-put-requires
 put-requires c κs =
-    omega (arith, c .before .before .before .before .before .before .before .put-key .ensures .place, short-key (c .before .before .before .before .before .before .before .before .before .before .before .before .before .args .row), c .before .before .before .put-fields .ensures .place, short-fields (c .before .before .before .before .before .before .before .before .before .before .before .form .result) (c .before .before .before .before .before .before .before .before .before .before .place .result) (c .before .before .before .before .before .before .before .before .before .width .result) 0 (c .before .before .before .before .before .before .before .before .before .before .before .before .before .args .numbers), eight-each (c .before .before .before .before .before .before .before .before .before .before .before .form .result) (c .before .before .before .before .before .before .before .before .before .width .result), place-room (c .before .before .before .before .before .before .before .before .before .before .before .before .before .args .row) (c .before .before .before .before .before .before .before .before .before .before .before .before .before .pre .0), c .before .before .before .before .before .before .before .before .before .width .ensures)
+    omega (arith, c .before .before .before .before .before .before .before .put-key .ensures .place, short-key (c .before .before .before .before .before .before .before .before .before .before .before .before .before .args .row), c .before .before .before .put-fields .ensures .place, short-fields (c .before .before .before .before .before .before .before .before .before .before .before .form .result) (c .before .before .before .before .before .before .before .before .before .before .place .result) (c .before .before .before .before .before .before .before .before .before .width .result) 0 (c .before .before .before .before .before .before .before .before .before .before .before .before .before .args .numbers .now), eight-each (c .before .before .before .before .before .before .before .before .before .before .before .form .result) (c .before .before .before .before .before .before .before .before .before .width .result), place-room (c .before .before .before .before .before .before .before .before .before .before .before .before .before .args .row) (c .before .before .before .before .before .before .before .before .before .before .before .before .before .pre .0), c .before .before .before .before .before .before .before .before .before .width .ensures)
 
 same-length : tie.Need-same-length
 same-length c =

@@ -1,12 +1,12 @@
 -- `writer::put_lines` meets its contract: at each turn a row more is stored, if the sheet has it. Assumes nothing.
-use borrow.Author.Needs.{needs}
-use native.Mathlib.Omega.{arith}
 use mathlib.Core.Path.{sym, _∙_}
 use Prim.Native.Nat.{_-_, _≤_}
 use Rattle.writer.specs.Text.{rowText, textFrom}
 use Rattle.writer.proofs.Puts.{Doing, start, next, end, where-now, doing-length}
 use Rattle.writer.proofs.Lengths.{short-text, longest-is}
 use Rattle.writer.proofs.Pieces.{text-over, text-absent, text-next}
+use borrow.Author.Needs.{needs}
+use native.Mathlib.Omega.{arith}
 use Rattle.writer.proofs.put_lines.Statement.{statement}
 use Rattle.writer.proofs.put_lines.Tie as tie
 
@@ -25,7 +25,7 @@ present-requires c κs = search needs
 
 put-line-requires : tie.Need-put-line-requires Inv-loop μ-loop
 put-line-requires c κs =
-    let h = where-now _ (c .before .before .before .before .loop .inv .1) in (omega arith, omega (arith, short-text (c .before .before .before .before .before .before .args .numbers) 45 0, longest-is))
+    let h = where-now _ (c .before .before .before .before .loop .inv .1) in (omega arith, omega (arith, short-text (c .before .before .before .before .before .before .args .numbers .now) 45 0, longest-is))
 
 add-row : tie.Need-add-row Inv-loop μ-loop
 add-row c = search needs
@@ -35,7 +35,7 @@ loop-less c = search needs
 
 loop-again : tie.Need-loop-again Inv-loop μ-loop
 loop-again c =
-    (omega arith, next (rowText (c .before .before .before .before .before .before .before .loop .row) (c .before .before .before .before .before .before .before .before .before .args .numbers)) _ (rw (text-next (c .before .before .before .before .before .before .before .before .before .args .numbers) (c .before .before .before .before .before .before .before .loop .row) (c .before .before .before .before .before .before .loop-test .taken) (sym (c .before .before .before .before .before .present .ensures) ∙ c .before .before .before .before .if1 .taken)) at (c .before .before .before .before .before .before .before .loop .inv .1)) (c .before .before .put-line .ensures))
+    (omega arith, next (rowText (c .before .before .before .before .before .before .before .loop .row) (c .before .before .before .before .before .before .before .before .before .args .numbers .now)) _ (rw (text-next (c .before .before .before .before .before .before .before .before .before .args .numbers .now) (c .before .before .before .before .before .before .before .loop .row) (c .before .before .before .before .before .before .loop-test .taken) (sym (c .before .before .before .before .before .present .ensures) ∙ c .before .before .before .before .if1 .taken)) at (c .before .before .before .before .before .before .before .loop .inv .1)) (c .before .before .put-line .ensures))
 
 add-row-2 : tie.Need-add-row-2 Inv-loop μ-loop
 add-row-2 c = search needs
@@ -45,7 +45,7 @@ loop-less-2 c = search needs
 
 loop-again-2 : tie.Need-loop-again-2 Inv-loop μ-loop
 loop-again-2 c =
-    (omega arith, rw (text-absent (c .before .before .before .before .before .args .numbers) (c .before .before .before .loop .row) (c .before .before .loop-test .taken) (sym (c .before .present .ensures) ∙ c .if1 .left)) at (c .before .before .before .loop .inv .1))
+    (omega arith, rw (text-absent (c .before .before .before .before .before .args .numbers .now) (c .before .before .before .loop .row) (c .before .before .loop-test .taken) (sym (c .before .present .ensures) ∙ c .if1 .left)) at (c .before .before .before .loop .inv .1))
 
 same-length : tie.Need-same-length Inv-loop μ-loop
 same-length c =
@@ -53,7 +53,7 @@ same-length c =
 
 returns : tie.Need-returns Inv-loop μ-loop
 returns c =
-    end (rw (text-over (c .before .before .before .args .numbers) (c .before .loop .row) (c .loop-test .left)) at (c .before .loop .inv .1))
+    end (rw (text-over (c .before .before .before .args .numbers .now) (c .before .loop .row) (c .loop-test .left)) at (c .before .loop .inv .1))
 
 pub put-lines-spec : {M : Type 1} → statement M
 put-lines-spec =
