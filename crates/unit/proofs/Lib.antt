@@ -6,3 +6,4 @@ pub mod Loads
 pub mod Printed
 pub mod Refused
 pub mod Rest
+pub mod Passing

@@ -1,11 +1,15 @@
 // One tick of the unit, in its three steps, and the loader.
 ghost use mathlib.Core.Path.{_≡_};
+ghost use mathlib.Core.Bool.{true};
+ghost use lib.ListN.{replicate};
 ghost use Rattle.units.specs.Numbers.{both};
 ghost use Rattle.stage.specs.Commands.{ended};
 ghost use Rattle.unit.specs.Settling.{at};
 ghost use Rattle.unit.specs.Commands.{allowed, heard, obeyed, commandAnswer};
 ghost use Rattle.unit.specs.Calls.{inNormal, countTo, counted, dwellEnds, readCall};
-ghost use Rattle.unit.specs.Unit.{fitsIn, fits, afterTimes, afterCommand, afterCall, ticked, tickOf};
+ghost use Rattle.unit.specs.declared.Command.the-variants.{None};
+ghost use Rattle.unit.specs.Runs.{tick, run};
+ghost use Rattle.unit.specs.Unit.{lengthsOf, fitsIn, fits, afterTimes, afterCommand, afterCall, ticked, tickOf};
 ghost use Rattle.unit.specs.Unit.{resting, newer, placeAnswer, loadAnswer, loaded, loadOf};
 use super::Command;
 use super::Ticked;
@@ -206,6 +210,36 @@ impl Unit {
                 unit: self,
                 answer: answer,
             }
+        }
+    }
+
+    // The ticks of a unit that fits, by the lengths of its sheet.
+    fn passed(self, t: Lengths, call: bool, count: u32) -> Unit
+        requires { ⌜ (fits self ≡ true) × (lengthsOf (self .sheet) ≡ t) ⌝ }
+        ensures { λ r. ⌜ r ≡ run self (replicate count (tick None call)) ⌝ }
+    {
+        let mut now = self;
+        let mut i: u32 = 0;
+        while i < count {
+            let next = now.ticked(t, Command::None, call);
+            let unit = next.unit;
+            now = unit;
+            i += 1;
+        }
+        now
+    }
+
+    // That many ticks with the call and no command: the worksheet is worked out once for all of them.
+    pub fn pass(self, call: bool, count: u32) -> Unit
+        ensures { λ r. ⌜ r ≡ run self (replicate count (tick None call)) ⌝ }
+    {
+        let sheet = self.sheet;
+        let m = super::measure(sheet);
+        let t = m.lengths;
+        if self.fits_with(m.accepted, t) {
+            self.passed(t, call, count)
+        } else {
+            self
         }
     }
 
