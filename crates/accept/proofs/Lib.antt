@@ -1,4 +1,7 @@
 pub mod Along
 pub mod Rows
+pub mod Rules
 pub mod Sound
+pub mod Accepted
+pub mod First
 pub mod Fixed

@@ -1,6 +1,6 @@
 -- What a fine row says: each number in its range, and its rule kept. Assumes nothing.
 use mathlib.Core.Path.{_≡_}
-use mathlib.Core.Bool.{Bool, true, false}
+use mathlib.Core.Bool.{true}
 use mathlib.Core.List.{List, [], _∷_}
 use Prim.Native.Nat.{ℕ, zero, suc, _+_, _<_}
 use native.Mathlib.Nat.{not-suc-le-zero}
@@ -56,8 +56,12 @@ fine-rows v (suc n) row line e (suc k) h p =
 
 pub row-ranges : (v : List ℕ) (row : ℕ) → FineRow v row → inRanges v (placeOf row) (rangesOf row) ≡ true
 unfolding rowFault
-row-ranges v row f = passes _ _ _ (both-fine _ _ (f .fine) .0)
+row-ranges v row f =
+    let each = both-fine _ _ (f .fine) in
+    search passes
 
 pub row-rule : (v : List ℕ) (row : ℕ) (f : FineRow v row) → ruleFault v row (f .line) ≡ Fine
 unfolding rowFault
-row-rule v row f = both-fine _ _ (f .fine) .1
+row-rule v row f =
+    let each = both-fine _ _ (f .fine) in
+    search each

@@ -1,34 +1,36 @@
 -- An accepted sheet is sound: each fact is read off its row. Assumes nothing.
 use mathlib.Core.Path.{_≡_, refl, ap, subst}
-use mathlib.Core.Bool.{Bool, true, false}
-use mathlib.Core.List.{List, [], _∷_}
+use mathlib.Core.Bool.{Bool, true}
+use mathlib.Core.List.{List}
 use Prim.Native.Nat.{ℕ, zero, suc, _+_, _-_, _*_, _<_, _≤_}
-use native.Mathlib.Nat.{not-suc-le-zero}
 use native.Mathlib.Omega.{arith}
-use lib.Dec.{leb, ltb, eqb, eqb→eq}
+use lib.Dec.{eqb, eqb→eq}
 use lib.ListN.{length, getD, take, length-take}
 use lib.Seq.{getD-take}
-use borrow.Author.Tests.{leb-true, eqb-true, eq-eqb, lt-ltb, le-ltb}
+use borrow.Author.Tests.{leb-true, ne-eqb, lt-ltb, le-ltb}
 use Rattle.units.specs.Numbers.{pick}
-use Rattle.units.proofs.All.{All, all-from}
-use Rattle.units.proofs.Steps.{both-left, both-right}
+use Rattle.units.specs.Lists.{All}
+use Rattle.units.proofs.All.{all-from}
 use Rattle.units.proofs.Tested.{at}
 use Rattle.sheet.specs.declared.Phase.{Phase}
-use Rattle.sheet.specs.declared.Point.{Point}
 use Rattle.sheet.specs.declared.Sheet.{Sheet}
 use Rattle.sheet.specs.declared.Answer.the-variants.{Fine}
+use Rattle.sheet.specs.declared.Refusal.the-variants.{PointsDontRise}
+use Rattle.sheet.specs.Refusals.{unless}
+use Rattle.sheet.specs.Entries.{nthPhase, nthPoint}
 use Rattle.sheet.specs.Zero.{zeroPhase, zeroPoint}
 use Rattle.sheet.proofs.Answers.{both-fine, passes}
-use Rattle.rows.specs.Table.{_to_, none, kinds, rows, kindOf, rangesOf, rangeOf, widthOf, placeOf, inRanges, present}
-use Rattle.rows.specs.Flat.{numbersFrom, flatOf, phaseAt, pointAt}
-use Rattle.accept.specs.Lines.{noPedestrians, clearsLate, phaseFault, beforePhase, ruleFault, linesFault}
+use Rattle.rows.specs.Table.{_to_, none, kinds, rows, kindOf, rangesOf, rangeOf, widthOf, placeOf, inRanges, present, rowCount, mostPhases, mostPoints, placeFor, rowFor, firstPhase, firstPoint, phaseKind, pointKind}
+use Rattle.numbers.specs.Flat.{phasePlace, pointPlace, numbersFrom, flatOf, phaseAt, pointAt}
+use Rattle.accept.specs.Lines.{phaseFault, startsAtZero, pointRises, beforePhase, pointFits, ruleFault, linesFault}
 use Rattle.accept.specs.Whole.{wholeFault, acceptOf}
-use Rattle.accept.specs.Ranges.{Between, SoundPhase, SoundPoint, Sound, AcceptedIsSound}
+use Rattle.accept.specs.Ranges.{Between, SoundPhase, SoundPoint, AcceptedIsSound}
+use Rattle.accept.proofs.Rules.{PhaseKept, phase-kept, AtZero, at-zero, Rises, point-rises}
 use Rattle.accept.proofs.Rows.{in-each, FineRow, fine-rows, row-ranges, row-rule}
 
 -- ---- phases and points among the numbers
 
-pub phase-in : (s : Sheet) (i : ℕ) → i < 8 → phaseAt (flatOf s) i ≡ getD (s .phases) i zeroPhase
+pub phase-in : (s : Sheet) (i : ℕ) → i < mostPhases → phaseAt (flatOf s) i ≡ getD (s .phases) i zeroPhase
 unfolding flatOf numbersFrom
 phase-in s zero h = refl
 phase-in s (suc zero) h = refl
@@ -40,7 +42,7 @@ phase-in s (suc (suc (suc (suc (suc (suc zero)))))) h = refl
 phase-in s (suc (suc (suc (suc (suc (suc (suc zero))))))) h = refl
 phase-in s (suc (suc (suc (suc (suc (suc (suc (suc i)))))))) h = absurd (omega arith)
 
-pub point-in : (s : Sheet) (i : ℕ) → i < 16 → pointAt (flatOf s) i ≡ getD (s .points) i zeroPoint
+pub point-in : (s : Sheet) (i : ℕ) → i < mostPoints → pointAt (flatOf s) i ≡ getD (s .points) i zeroPoint
 unfolding flatOf numbersFrom
 point-in s zero h = refl
 point-in s (suc zero) h = refl
@@ -60,98 +62,114 @@ point-in s (suc (suc (suc (suc (suc (suc (suc (suc (suc (suc (suc (suc (suc (suc
 point-in s (suc (suc (suc (suc (suc (suc (suc (suc (suc (suc (suc (suc (suc (suc (suc zero))))))))))))))) h = refl
 point-in s (suc (suc (suc (suc (suc (suc (suc (suc (suc (suc (suc (suc (suc (suc (suc (suc i)))))))))))))))) h = absurd (omega arith)
 
-pub phases-at : (s : Sheet) → getD (flatOf s) 5 0 ≡ s .«phase_count»
+pub phases-at : (s : Sheet) → getD (flatOf s) (placeFor "phases") 0 ≡ s .«phase_count»
 unfolding flatOf
 phases-at s = refl
 
-pub points-at : (s : Sheet) → getD (flatOf s) 85 0 ≡ s .«point_count»
+pub points-at : (s : Sheet) → getD (flatOf s) (placeFor "points") 0 ≡ s .«point_count»
 unfolding flatOf numbersFrom
 points-at s = refl
 
-pub phase-kind : (i : ℕ) → i < 8 → kindOf (6 + i) ≡ 6
-unfolding kindOf rows
-phase-kind i h = eqb→eq (kindOf (6 + i)) 6 (at (λ (k : ℕ). eqb (kindOf (6 + k)) 6) 8 tt i h)
+pub phase-kind : (i : ℕ) → i < mostPhases → kindOf (firstPhase + i) ≡ phaseKind
+unfolding kindOf
+phase-kind i h = eqb→eq (kindOf (firstPhase + i)) phaseKind (at (λ (k : ℕ). eqb (kindOf (firstPhase + k)) phaseKind) 8 tt i h)
 
-pub phase-place : (i : ℕ) → i < 8 → placeOf (6 + i) ≡ 6 + 8 * i
-unfolding placeOf widthOf rangesOf kindOf kinds rows
-phase-place i h = eqb→eq (placeOf (6 + i)) (6 + 8 * i) (at (λ (k : ℕ). eqb (placeOf (6 + k)) (6 + 8 * k)) 8 tt i h)
+pub phase-place : (i : ℕ) → i < mostPhases → placeOf (firstPhase + i) ≡ phasePlace i
+unfolding placeOf widthOf rangesOf kindOf
+phase-place i h = eqb→eq (placeOf (firstPhase + i)) (phasePlace i) (at (λ (k : ℕ). eqb (placeOf (firstPhase + k)) (phasePlace k)) 8 tt i h)
 
-pub phase-present : (v : List ℕ) (i : ℕ) → i < 8 → i < getD v 5 0 → present v (6 + i) ≡ true
+pub phase-present : (v : List ℕ) (i : ℕ) → i < mostPhases → i < getD v (placeFor "phases") 0 → present v (firstPhase + i) ≡ true
 unfolding present pick
 phase-present v i h c =
-    let e : 6 + i - 6 ≡ i = omega arith in
-    rw (le-ltb (6 + i) 6 (omega arith), lt-ltb (6 + i) 14 (omega arith), e) (lt-ltb i (getD v 5 0) c)
+    let e : firstPhase + i - firstPhase ≡ i = omega arith in
+    rw (le-ltb (firstPhase + i) firstPhase (omega arith), lt-ltb (firstPhase + i) (firstPhase + mostPhases) (omega arith), e) (lt-ltb i (getD v (placeFor "phases") 0) c)
 
-pub point-kind : (i : ℕ) → i < 16 → kindOf (29 + i) ≡ 22
-unfolding kindOf rows
-point-kind i h = eqb→eq (kindOf (29 + i)) 22 (at (λ (k : ℕ). eqb (kindOf (29 + k)) 22) 16 tt i h)
+pub point-kind : (i : ℕ) → i < mostPoints → kindOf (firstPoint + i) ≡ pointKind
+unfolding kindOf
+point-kind i h = eqb→eq (kindOf (firstPoint + i)) pointKind (at (λ (k : ℕ). eqb (kindOf (firstPoint + k)) pointKind) 16 tt i h)
 
-pub point-place : (i : ℕ) → i < 16 → placeOf (29 + i) ≡ 86 + 2 * i
-unfolding placeOf widthOf rangesOf kindOf kinds rows
-point-place i h = eqb→eq (placeOf (29 + i)) (86 + 2 * i) (at (λ (k : ℕ). eqb (placeOf (29 + k)) (86 + 2 * k)) 16 tt i h)
+pub point-place : (i : ℕ) → i < mostPoints → placeOf (firstPoint + i) ≡ pointPlace i
+unfolding placeOf widthOf rangesOf kindOf
+point-place i h = eqb→eq (placeOf (firstPoint + i)) (pointPlace i) (at (λ (k : ℕ). eqb (placeOf (firstPoint + k)) (pointPlace k)) 16 tt i h)
 
-pub point-present : (v : List ℕ) (i : ℕ) → i < 16 → i < getD v 85 0 → present v (29 + i) ≡ true
+pub point-present : (v : List ℕ) (i : ℕ) → i < mostPoints → i < getD v (placeFor "points") 0 → present v (firstPoint + i) ≡ true
 unfolding present pick
 point-present v i h c =
-    let e : 29 + i - 29 ≡ i = omega arith in
-    rw (le-ltb (29 + i) 6 (omega arith), le-ltb (29 + i) 14 (omega arith), le-ltb (29 + i) 29 (omega arith), e) (lt-ltb i (getD v 85 0) c)
+    let e : firstPoint + i - firstPoint ≡ i = omega arith in
+    rw (le-ltb (firstPoint + i) firstPhase (omega arith), le-ltb (firstPoint + i) (firstPhase + mostPhases) (omega arith), le-ltb (firstPoint + i) firstPoint (omega arith), e) (lt-ltb i (getD v (placeFor "points") 0) c)
 
-ranges-by : (k m : ℕ) → kindOf k ≡ m → rangesOf k ≡ getD kinds m none .ranges
+pub ranges-by : (k m : ℕ) → kindOf k ≡ m → rangesOf k ≡ getD kinds m none .ranges
 unfolding rangesOf
 ranges-by k m e = ap (λ (n : ℕ). getD kinds n none .ranges) e
 
--- ---- the rules of a phase line
+-- ---- the rules of a phase line and of a point line, of the sheet's own entries
 
-quiet : (p : Phase) → noPedestrians p ≡ true → p .mode ≡ 0 → (p .walk ≡ 0) × (p .clearance ≡ 0)
-unfolding noPedestrians pick
-quiet p t m =
-    let b = rw (eq-eqb (p .mode) 0 m) at t in
-    (eqb-true (p .walk) 0 (both-left (eqb (p .walk) 0) (eqb (p .clearance) 0) b), eqb-true (p .clearance) 0 (both-right (eqb (p .walk) 0) (eqb (p .clearance) 0) b))
+abbrev pub before : Sheet → ℕ → Phase
+before s i = pick (eqb i 0) zeroPhase (nthPhase s (i - 1))
 
-late : (p : Phase) → clearsLate p ≡ true → p .mode ≡ 2 → p .yellow + p .red ≤ p .clearance
-unfolding clearsLate pick
-late p t m = leb-true (p .yellow + p .red) (p .clearance) (rw (eq-eqb (p .mode) 2 m) at t)
+pub before-in : (s : Sheet) (i : ℕ) → i < 8 → beforePhase (flatOf s) i ≡ before s i
+unfolding beforePhase
+before-in s i h = ap (pick (eqb i 0) zeroPhase) (phase-in s (i - 1) (omega arith))
 
-rule-kept : (v : List ℕ) (i line : ℕ) → i < 8 → ruleFault v (6 + i) line ≡ Fine → (noPedestrians (phaseAt v i) ≡ true) × (clearsLate (phaseAt v i) ≡ true)
-unfolding ruleFault phaseFault pick
-rule-kept v i line h f =
-    let e : 6 + i - 6 ≡ i = omega arith in
-    let g = both-fine _ _ (both-fine _ _ (rw (eq-eqb (kindOf (6 + i)) 6 (phase-kind i h), e) at f) .1) in
-    (passes _ _ _ (g .0), passes _ _ _ (g .1))
+abbrev pub fitting : Sheet → ℕ → Bool
+fitting s i = pick (eqb i 0) (startsAtZero (nthPoint s i)) (pointRises (nthPoint s (i - 1)) (nthPoint s i))
+
+pub fitting-in : (s : Sheet) (i : ℕ) → i < mostPoints → pointFits (flatOf s) i ≡ fitting s i
+unfolding pointFits
+fitting-in s i h =
+    let p = point-in s i h in
+    let q = point-in s (i - 1) (omega arith) in
+    λ d. pick (eqb i 0) (startsAtZero (p d)) (pointRises (q d) (p d))
+
+pub phase-rule : (s : Sheet) (i line : ℕ) → i < mostPhases → ruleFault (flatOf s) (firstPhase + i) line ≡ phaseFault (before s i) (nthPhase s i) line
+unfolding ruleFault pick
+phase-rule s i line h =
+    let e : firstPhase + i - firstPhase ≡ i = omega arith in
+    rw (phase-kind i h, e) (λ d. phaseFault (before-in s i h d) (phase-in s i h d) line)
+
+pub point-rule : (s : Sheet) (i line : ℕ) → i < mostPoints → ruleFault (flatOf s) (firstPoint + i) line ≡ unless (fitting s i) PointsDontRise line
+unfolding ruleFault pick
+point-rule s i line h =
+    let e : firstPoint + i - firstPoint ≡ i = omega arith in
+    rw (point-kind i h, e) (ap (λ (b : Bool). unless b PointsDontRise line) (fitting-in s i h))
 
 -- ---- row by row
 
 module _ (s : Sheet) (e : linesFault (flatOf s) ≡ Fine) where
-  row-fine : (k : ℕ) → k < 45 → present (flatOf s) k ≡ true → FineRow (flatOf s) k
-  row-fine k h p = let z : 0 + k ≡ k = omega arith in rw z at (fine-rows (flatOf s) 45 0 1 e k h (rw z p))
+  row-fine : (k : ℕ) → k < rowCount → present (flatOf s) k ≡ true → FineRow (flatOf s) k
+  row-fine k h p = let z : 0 + k ≡ k = omega arith in rw z at (fine-rows (flatOf s) rowCount 0 1 e k h (rw z p))
 
-  number : (k : ℕ) → k < 45 → present (flatOf s) k ≡ true → (j : ℕ) → j < length (rangesOf k) → Between (rangeOf k j .least) (getD (flatOf s) (placeOf k + j) 0) (rangeOf k j .most)
+  number : (k : ℕ) → k < rowCount → present (flatOf s) k ≡ true → (j : ℕ) → j < length (rangesOf k) → Between (rangeOf k j .least) (getD (flatOf s) (placeOf k + j) 0) (rangeOf k j .most)
   number k h p j i = in-each (flatOf s) (placeOf k) (rangesOf k) (row-ranges (flatOf s) k (row-fine k h p)) j i
 
   -- the same of a row of a kind m at a place
-  number-of : (k m at : ℕ) → k < 45 → present (flatOf s) k ≡ true → kindOf k ≡ m → placeOf k ≡ at → (j : ℕ) → j < length (getD kinds m none .ranges)
+  number-of : (k m at : ℕ) → k < rowCount → present (flatOf s) k ≡ true → kindOf k ≡ m → placeOf k ≡ at → (j : ℕ) → j < length (getD kinds m none .ranges)
       → Between (getD (getD kinds m none .ranges) j (0 to 0) .least) (getD (flatOf s) (at + j) 0) (getD (getD kinds m none .ranges) j (0 to 0) .most)
   number-of k m at h p ek ep j i =
       in-each (flatOf s) at (getD kinds m none .ranges) (rw (ep, ranges-by k m ek) at (row-ranges (flatOf s) k (row-fine k h p))) j i
 
-  phase-number : (i : ℕ) → i < 8 → i < s .«phase_count» → (j : ℕ) → j < 8 → Between (getD (getD kinds 6 none .ranges) j (0 to 0) .least) (getD (flatOf s) (6 + 8 * i + j) 0) (getD (getD kinds 6 none .ranges) j (0 to 0) .most)
-  unfolding kinds
+  phase-number : (i : ℕ) → i < mostPhases → i < s .«phase_count» → (j : ℕ) → j < 8 → Between (getD (getD kinds phaseKind none .ranges) j (0 to 0) .least) (getD (flatOf s) (phasePlace i + j) 0) (getD (getD kinds phaseKind none .ranges) j (0 to 0) .most)
   phase-number i h c j b =
-      number-of (6 + i) 6 (6 + 8 * i) (omega arith) (phase-present (flatOf s) i h (rw (phases-at s) c)) (phase-kind i h) (phase-place i h) j b
+      number-of (firstPhase + i) phaseKind (phasePlace i) (omega arith) (phase-present (flatOf s) i h (rw (phases-at s) c)) (phase-kind i h) (phase-place i h) j b
 
-  phase-rules : (i : ℕ) → i < 8 → i < s .«phase_count» → (noPedestrians (phaseAt (flatOf s) i) ≡ true) × (clearsLate (phaseAt (flatOf s) i) ≡ true)
+  phase-rules : (i : ℕ) → i < mostPhases → i < s .«phase_count» → PhaseKept (before s i) (nthPhase s i)
   phase-rules i h c =
-      let f = row-fine (6 + i) (omega arith) (phase-present (flatOf s) i h (rw (phases-at s) c)) in
-      rule-kept (flatOf s) i (f .line) h (row-rule (flatOf s) (6 + i) f)
+      let f = row-fine (firstPhase + i) (omega arith) (phase-present (flatOf s) i h (rw (phases-at s) c)) in
+      phase-kept (before s i) (nthPhase s i) (f .line) (rw (phase-rule s i (f .line) h) at (row-rule (flatOf s) (firstPhase + i) f))
 
-  phase-sound : (i : ℕ) → i < 8 → i < s .«phase_count» → SoundPhase (getD (s .phases) i zeroPhase)
-  unfolding kinds
+  rises : (i : ℕ) → i + 1 < mostPhases → i + 1 < s .«phase_count» → nthPhase s i .number < nthPhase s (i + 1) .number
+  unfolding pick
+  rises i h c =
+      let e : i + 1 - 1 ≡ i = omega arith in
+      rw (ne-eqb (i + 1) 0 (omega arith), e) at (phase-rules (i + 1) h c .rises)
+
+  phase-sound : (i : ℕ) → i < mostPhases → i < s .«phase_count» → SoundPhase (getD (s .phases) i zeroPhase)
   phase-sound i h c =
       let n = phase-number i h c in
-      let z : 6 + 8 * i + 0 ≡ 6 + 8 * i = omega arith in
-      let r = phase-rules i h c in
-      subst SoundPhase (phase-in s i h)
-      (record {
+      let z : phasePlace i + 0 ≡ phasePlace i = omega arith in
+      subst (λ (p : Phase). PhaseKept (before s i) p → SoundPhase p) (phase-in s i h)
+      (λ r.
+      record {
         number = rw z at (n 0 (omega arith));
         green = n 1 (omega arith) .high;
         other = n 2 (omega arith) .high;
@@ -160,16 +178,31 @@ module _ (s : Sheet) (e : linesFault (flatOf s) ≡ Fine) where
         walk = n 5 (omega arith) .high;
         clearance = n 6 (omega arith) .high;
         mode = n 7 (omega arith) .high;
-        quiet = quiet (phaseAt (flatOf s) i) (r .0);
-        late = late (phaseAt (flatOf s) i) (r .1);
+        quiet = λ m. (r .quiet .walk m, r .quiet .clearance m);
+        late = r .late;
       })
+      (phase-rules i h c)
 
-  point-sound : (i : ℕ) → i < 16 → i < s .«point_count» → SoundPoint (getD (s .points) i zeroPoint)
-  unfolding kinds
+  point-sound : (i : ℕ) → i < mostPoints → i < s .«point_count» → SoundPoint (getD (s .points) i zeroPoint)
   point-sound i h c =
-      let n = number-of (29 + i) 22 (86 + 2 * i) (omega arith) (point-present (flatOf s) i h (rw (points-at s) c)) (point-kind i h) (point-place i h) in
-      let z : 86 + 2 * i + 0 ≡ 86 + 2 * i = omega arith in
+      let n = number-of (firstPoint + i) pointKind (pointPlace i) (omega arith) (point-present (flatOf s) i h (rw (points-at s) c)) (point-kind i h) (point-place i h) in
+      let z : pointPlace i + 0 ≡ pointPlace i = omega arith in
       subst SoundPoint (point-in s i h) (record { feet = rw z at (n 0 (omega arith) .high); tenths = n 1 (omega arith) .high })
+
+  point-rules : (i : ℕ) → i < 16 → i < s .«point_count» → fitting s i ≡ true
+  point-rules i h c =
+      let f = row-fine (29 + i) (omega arith) (point-present (flatOf s) i h (rw (points-at s) c)) in
+      passes _ _ _ (rw (point-rule s i (f .line) h) at (row-rule (flatOf s) (29 + i) f))
+
+  starts : 0 < s .«point_count» → AtZero (nthPoint s 0)
+  unfolding pick
+  starts c = at-zero (nthPoint s 0) (point-rules 0 (omega arith) c)
+
+  goes-on : (i : ℕ) → i + 1 < 16 → i + 1 < s .«point_count» → Rises (nthPoint s i) (nthPoint s (i + 1))
+  unfolding pick
+  goes-on i h c =
+      let e : i + 1 - 1 ≡ i = omega arith in
+      point-rises (nthPoint s i) (nthPoint s (i + 1)) (rw (ne-eqb (i + 1) 0 (omega arith), e) at (point-rules (i + 1) h c))
 
 -- ---- the listed entries
 
@@ -179,41 +212,46 @@ listed P xs d n m h f =
     (λ i b. let c : i < n = omega (arith, rw (length-take n xs) at b) in rw (getD-take n xs i d c) (f i (omega arith) c))
 
 pub sound : AcceptedIsSound
-unfolding acceptOf wholeFault flatOf numbersFrom placeOf widthOf rangesOf kindOf kinds rows present pick
+unfolding acceptOf wholeFault flatOf numbersFrom placeOf widthOf rangesOf kindOf present pick
 sound s e =
     let both = both-fine _ _ e in
     let l = both .0 in
     let w = both-fine _ _ (both .1) in
     let w2 = both-fine _ _ (w .1) in
     let w3 = both-fine _ _ (w2 .1) in
-    let phases = number s l 5 (omega arith) refl 0 (omega arith) in
-    let points = number s l 28 (omega arith) refl 0 (omega arith) in
+    let phases = number s l (rowFor "phases") (omega arith) refl 0 (omega arith) in
+    let points = number s l (rowFor "points") (omega arith) refl 0 (omega arith) in
+    let start = starts s l (omega (arith, points .low)) in
     record {
-      issue = number s l 0 (omega arith) refl 0 (omega arith);
-      grade = number s l 2 (omega arith) refl 0 (omega arith);
-      l01 = number s l 3 (omega arith) refl 0 (omega arith) .high;
-      l02 = number s l 4 (omega arith) refl 0 (omega arith);
+      issue = number s l (rowFor "issue") (omega arith) refl 0 (omega arith);
+      grade = number s l (rowFor "grade") (omega arith) refl 0 (omega arith);
+      l01 = number s l (rowFor "l01") (omega arith) refl 0 (omega arith) .high;
+      l02 = number s l (rowFor "l02") (omega arith) refl 0 (omega arith);
       «phase_count» = phases;
       phases = listed SoundPhase (s .phases) zeroPhase (s .«phase_count») 8 (phases .high) (phase-sound s l);
-      «track_yellow» = number s l 14 (omega arith) refl 0 (omega arith);
-      «track_red» = number s l 14 (omega arith) refl 1 (omega arith) .high;
-      l18 = number s l 15 (omega arith) refl 0 (omega arith) .high;
-      l19 = number s l 16 (omega arith) refl 0 (omega arith);
-      l20 = number s l 17 (omega arith) refl 0 (omega arith);
-      l28 = number s l 18 (omega arith) refl 0 (omega arith) .high;
-      l30 = number s l 19 (omega arith) refl 0 (omega arith);
-      l31 = number s l 20 (omega arith) refl 0 (omega arith) .high;
-      l33 = number s l 21 (omega arith) refl 0 (omega arith) .high;
-      l37 = number s l 22 (omega arith) refl 0 (omega arith);
-      l39 = number s l 23 (omega arith) refl 0 (omega arith) .high;
-      l47 = number s l 24 (omega arith) refl 0 (omega arith) .high;
-      l56 = number s l 25 (omega arith) refl 0 (omega arith);
-      l57 = number s l 26 (omega arith) refl 0 (omega arith);
-      l58 = number s l 27 (omega arith) refl 0 (omega arith) .high;
+      rising = λ i c. rises s l i (omega (arith, phases .high)) c;
+      «track_yellow» = number s l (rowFor "track") (omega arith) refl 0 (omega arith);
+      «track_red» = number s l (rowFor "track") (omega arith) refl 1 (omega arith) .high;
+      l18 = number s l (rowFor "l18") (omega arith) refl 0 (omega arith) .high;
+      l19 = number s l (rowFor "l19") (omega arith) refl 0 (omega arith);
+      l20 = number s l (rowFor "l20") (omega arith) refl 0 (omega arith);
+      l28 = number s l (rowFor "l28") (omega arith) refl 0 (omega arith) .high;
+      l30 = number s l (rowFor "l30") (omega arith) refl 0 (omega arith);
+      l31 = number s l (rowFor "l31") (omega arith) refl 0 (omega arith) .high;
+      l33 = number s l (rowFor "l33") (omega arith) refl 0 (omega arith) .high;
+      l37 = number s l (rowFor "l37") (omega arith) refl 0 (omega arith);
+      l39 = number s l (rowFor "l39") (omega arith) refl 0 (omega arith) .high;
+      l47 = number s l (rowFor "l47") (omega arith) refl 0 (omega arith) .high;
+      l56 = number s l (rowFor "l56") (omega arith) refl 0 (omega arith);
+      l57 = number s l (rowFor "l57") (omega arith) refl 0 (omega arith);
+      l58 = number s l (rowFor "l58") (omega arith) refl 0 (omega arith) .high;
       «point_count» = points;
       points = listed SoundPoint (s .points) zeroPoint (s .«point_count») 16 (points .high) (point-sound s l);
-      storage = leb-true (s .l47) (s .l18) (passes _ _ _ (w .0));
-      warning = leb-true _ _ (passes _ _ _ (w2 .0));
-      distance = leb-true _ _ (passes _ _ _ (w3 .0));
-      track = leb-true _ _ (passes _ _ _ (w3 .1));
+      start = (start .feet, start .tenths);
+      further = λ i c. goes-on s l i (omega (arith, points .high)) c .feet;
+      slower = λ i c. goes-on s l i (omega (arith, points .high)) c .tenths;
+      storage = search (leb-true, passes);
+      warning = search (leb-true, passes);
+      distance = search (leb-true, passes);
+      track = search (leb-true, passes);
     }

@@ -11,22 +11,22 @@ use Rattle.sheet.specs.declared.Answer.the-variants.{Fine}
 use Rattle.sheet.specs.declared.Refusal.the-variants.{OutOfRange, PhasesDontRise, PointsDontRise, PedestriansInModeZero, ClearanceTooShort}
 use Rattle.sheet.specs.Refusals.{orElse, unless}
 use Rattle.sheet.specs.Zero.{zeroPhase}
-use Rattle.rows.specs.Table.{kindOf, rangesOf, placeOf, inRanges, present, phaseKind, pointKind, firstPhase, firstPoint}
-use Rattle.rows.specs.Flat.{phaseAt, pointAt}
+use Rattle.rows.specs.Table.{kindOf, rangesOf, placeOf, inRanges, present, phaseKind, pointKind, firstPhase, firstPoint, rowCount}
+use Rattle.numbers.specs.Flat.{phaseAt, pointAt}
 
 -- 5: "mode 0 with walk or clearance above 0"
-unfoldable pub noPedestrians : Phase → Bool
-noPedestrians p = pick (eqb (p .mode) 0) (both (eqb (p .walk) 0) (eqb (p .clearance) 0)) true
+unfoldable pub quietInModeZero : Phase → Bool
+quietInModeZero p = pick (eqb (p .mode) 0) (both (eqb (p .walk) 0) (eqb (p .clearance) 0)) true
 
 -- 6: "mode 2 with clearance below yellow + red"
-unfoldable pub clearsLate : Phase → Bool
-clearsLate p = pick (eqb (p .mode) 2) (leb (p .yellow + p .red) (p .clearance)) true
+unfoldable pub clearsYellowAndRed : Phase → Bool
+clearsYellowAndRed p = pick (eqb (p .mode) 2) (leb (p .yellow + p .red) (p .clearance)) true
 
 -- the phase p after the phase `before`. 3: "phase numbers don't rise"
 unfoldable pub phaseFault : Phase → Phase → ℕ → Answer
 phaseFault before p line =
     orElse (unless (ltb (before .number) (p .number)) PhasesDontRise line)
-    (orElse (unless (noPedestrians p) PedestriansInModeZero line) (unless (clearsLate p) ClearanceTooShort line))
+    (orElse (unless (quietInModeZero p) PedestriansInModeZero line) (unless (clearsYellowAndRed p) ClearanceTooShort line))
 
 -- 4: "first point isn't 0,0, distances don't rise, or times fall"
 unfoldable pub startsAtZero : Point → Bool
@@ -66,4 +66,4 @@ faultFrom v zero row line = Fine
 faultFrom v (suc n) row line = orElse (hereFault v row line) (faultFrom v n (row + 1) (lineAfter v row line))
 
 abbrev pub linesFault : List ℕ → Answer
-linesFault v = faultFrom v 45 0 1
+linesFault v = faultFrom v rowCount 0 1

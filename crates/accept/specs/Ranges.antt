@@ -1,15 +1,15 @@
--- What an accepted sheet keeps: the ranges and rules that the crates above build on.
-use Prim.Native.Nat.{ℕ, _+_, _-_, _≤_}
+-- What an accepted sheet keeps, and that a sheet which keeps it is accepted.
+use Prim.Native.Nat.{ℕ, _+_, _≤_, _<_}
 use mathlib.Core.Path.{_≡_}
-use lib.IntN.{ℤ}
-use lib.ListN.{take}
-use Rattle.units.proofs.All.{All}
+use Rattle.units.specs.Lists.{All}
 use Rattle.sheet.specs.declared.Phase.{Phase}
 use Rattle.sheet.specs.declared.Point.{Point}
 use Rattle.sheet.specs.declared.Sheet.{Sheet}
 use Rattle.sheet.specs.declared.Answer.the-variants.{Fine}
-use Rattle.rows.specs.Flat.{gradeNumber}
-use Rattle.accept.specs.Whole.{leastWarning, reach, lastPoint, longestTransfer, acceptOf}
+use Rattle.sheet.specs.Entries.{Shaped, listedPhases, listedPoints, nthPhase, nthPoint}
+use Rattle.transfer.specs.Promises.{WithinSixteen}
+use Rattle.numbers.specs.Flat.{gradeNumber}
+use Rattle.accept.specs.Whole.{leastWarning, line48, lastPoint, acceptOf}
 
 pub record Between (least x most : ℕ) : Type 0 where
   pub low : least ≤ x
@@ -38,7 +38,9 @@ pub record Sound (s : Sheet) : Type 0 where
   pub l01 : s .l01 ≤ 999
   pub l02 : Between 1 (s .l02) 999
   pub «phase_count» : Between 1 (s .«phase_count») 8
-  pub phases : All SoundPhase (take (s .«phase_count») (s .phases))
+  pub phases : All SoundPhase (listedPhases s)
+  -- not refused 3: each has a higher number than the one before
+  pub rising : (i : ℕ) → i + 1 < s .«phase_count» → nthPhase s i .number < nthPhase s (i + 1) .number
   pub «track_yellow» : Between 30 (s .«track_yellow») 60
   pub «track_red» : s .«track_red» ≤ 60
   pub l18 : s .l18 ≤ 400
@@ -55,12 +57,25 @@ pub record Sound (s : Sheet) : Type 0 where
   pub l57 : Between 1 (s .l57) 999
   pub l58 : s .l58 ≤ 100
   pub «point_count» : Between 2 (s .«point_count») 16
-  pub points : All SoundPoint (take (s .«point_count») (s .points))
+  pub points : All SoundPoint (listedPoints s)
+  -- not refused 4: the first is 0,0, and each is further out than the one before, and no earlier
+  pub start : (nthPoint s 0 .feet ≡ 0) × (nthPoint s 0 .tenths ≡ 0)
+  pub further : (i : ℕ) → i + 1 < s .«point_count» → nthPoint s i .feet < nthPoint s (i + 1) .feet
+  pub slower : (i : ℕ) → i + 1 < s .«point_count» → nthPoint s i .tenths ≤ nthPoint s (i + 1) .tenths
   -- not refused 7 to 10
   pub storage : s .l47 ≤ s .l18
   pub warning : leastWarning (s .l19) ≤ s .l31
-  pub distance : reach s ≤ lastPoint s
-  pub track : s .«track_yellow» + s .«track_red» ≤ longestTransfer s
+  pub distance : line48 s ≤ lastPoint s
+  pub track : WithinSixteen (listedPhases s) (s .«track_yellow») (s .«track_red»)
 
+-- an accepted sheet keeps all of this
 abbrev pub AcceptedIsSound : Type 0
 AcceptedIsSound = (s : Sheet) → acceptOf s ≡ Fine → Sound s
+
+-- and a sheet that keeps it is accepted
+abbrev pub SoundIsAccepted : Type 0
+SoundIsAccepted = (s : Sheet) → Shaped s → Sound s → acceptOf s ≡ Fine
+
+-- so one of 2 to 10 is "given exactly when" it does not
+abbrev pub AcceptedWhenSound : Type 0
+AcceptedWhenSound = AcceptedIsSound × SoundIsAccepted

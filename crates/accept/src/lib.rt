@@ -2,11 +2,10 @@
 ghost use mathlib.Core.Path.{_≡_};
 ghost use Prim.Native.Nat.{_+_, _-_};
 ghost use lib.Dec.{leb};
-ghost use lib.ListN.{getD, take};
+ghost use lib.ListN.{getD};
 ghost use Rattle.sheet.specs.Refusals.{orElse, unless};
 ghost use Rattle.sheet.specs.Zero.{zeroPoint};
-ghost use Rattle.transfer.specs.Transfer.{line16};
-ghost use Rattle.accept.specs.Lines.{noPedestrians, clearsLate, phaseFault, startsAtZero, pointRises, beforePhase, pointFits, ruleFault, rowFault, linesFault};
+ghost use Rattle.accept.specs.Lines.{quietInModeZero, clearsYellowAndRed, phaseFault, startsAtZero, pointRises, beforePhase, pointFits, ruleFault, rowFault, linesFault};
 ghost use Rattle.accept.specs.Whole.{leastWarning, wholeFault, acceptOf};
 use sheet::Answer;
 use sheet::Phase;
@@ -33,8 +32,8 @@ fn or_else(first: Answer, second: Answer) -> Answer
     }
 }
 
-fn no_pedestrians(p: Phase) -> bool
-    ensures { λ r. ⌜ r ≡ noPedestrians p ⌝ }
+fn quiet_in_mode_zero(p: Phase) -> bool
+    ensures { λ r. ⌜ r ≡ quietInModeZero p ⌝ }
 {
     if p.mode == 0 {
         if p.walk == 0 { p.clearance == 0 } else { false }
@@ -43,8 +42,8 @@ fn no_pedestrians(p: Phase) -> bool
     }
 }
 
-fn clears_late(p: Phase) -> bool
-    ensures { λ r. ⌜ r ≡ clearsLate p ⌝ }
+fn clears_yellow_and_red(p: Phase) -> bool
+    ensures { λ r. ⌜ r ≡ clearsYellowAndRed p ⌝ }
 {
     if p.mode == 2 {
         p.yellow as u64 + p.red as u64 <= p.clearance as u64
@@ -57,8 +56,8 @@ fn phase_fault(before: Phase, p: Phase, line: u32) -> Answer
     ensures { λ r. ⌜ r ≡ phaseFault before p line ⌝ }
 {
     let rises = refuse_unless(before.number < p.number, Refusal::PhasesDontRise, line);
-    let quiet = refuse_unless(no_pedestrians(p), Refusal::PedestriansInModeZero, line);
-    let late = refuse_unless(clears_late(p), Refusal::ClearanceTooShort, line);
+    let quiet = refuse_unless(quiet_in_mode_zero(p), Refusal::PedestriansInModeZero, line);
+    let late = refuse_unless(clears_yellow_and_red(p), Refusal::ClearanceTooShort, line);
     or_else(rises, or_else(quiet, late))
 }
 
@@ -78,24 +77,24 @@ fn point_rises(before: Point, p: Point) -> bool
     }
 }
 
-fn before_phase(numbers: &[u32; 118], i: usize) -> Phase
+fn before_phase(numbers: &[u32; rows::NUMBERS], i: usize) -> Phase
     ensures { λ r. ⌜ r ≡ beforePhase (now (numbers .entry)) i ⌝ }
 {
     if i == 0 {
         sheet::zero_phase()
     } else {
-        rows::phase_at(numbers, i - 1)
+        numbers::phase_at(numbers, i - 1)
     }
 }
 
-fn point_fits(numbers: &[u32; 118], i: usize) -> bool
+fn point_fits(numbers: &[u32; rows::NUMBERS], i: usize) -> bool
     ensures { λ r. ⌜ r ≡ pointFits (now (numbers .entry)) i ⌝ }
 {
-    let p = rows::point_at(numbers, i);
+    let p = numbers::point_at(numbers, i);
     if i == 0 {
         starts_at_zero(p)
     } else {
-        point_rises(rows::point_at(numbers, i - 1), p)
+        point_rises(numbers::point_at(numbers, i - 1), p)
     }
 }
 
@@ -106,17 +105,21 @@ fn after(row: usize, first: usize) -> usize
     if first < row { row - first } else { 0 }
 }
 
-fn rule_fault(numbers: &[u32; 118], row: usize, line: u32) -> Answer
+fn rule_fault(numbers: &[u32; rows::NUMBERS], row: usize, line: u32) -> Answer
     ensures { λ r. ⌜ r ≡ ruleFault (now (numbers .entry)) row line ⌝ }
 {
     let kind = rows::kind(row);
-    if kind == 6 {
-        let i = after(row, 6);
-        return phase_fault(before_phase(numbers, i), rows::phase_at(numbers, i), line);
+    if kind == rows::PHASE_KIND {
+        let i = after(row, rows::FIRST_PHASE);
+        return phase_fault(
+            before_phase(numbers, i),
+            numbers::phase_at(numbers, i),
+            line,
+        );
     }
-    if kind == 22 {
+    if kind == rows::POINT_KIND {
         return refuse_unless(
-            point_fits(numbers, after(row, 29)),
+            point_fits(numbers, after(row, rows::FIRST_POINT)),
             Refusal::PointsDontRise,
             line,
         );
@@ -125,7 +128,7 @@ fn rule_fault(numbers: &[u32; 118], row: usize, line: u32) -> Answer
 }
 
 // The fault of a row of the numbers, on that line of the text.
-pub fn row_fault(numbers: &[u32; 118], row: usize, line: u32) -> Answer
+pub fn row_fault(numbers: &[u32; rows::NUMBERS], row: usize, line: u32) -> Answer
     ensures { λ r. ⌜ r ≡ rowFault (now (numbers .entry)) row line ⌝ }
 {
     let inside = rows::in_ranges(numbers, row);
@@ -134,12 +137,12 @@ pub fn row_fault(numbers: &[u32; 118], row: usize, line: u32) -> Answer
 }
 
 // The first fault of the lines that the numbers make.
-pub fn lines_fault(numbers: &[u32; 118]) -> Answer
+pub fn lines_fault(numbers: &[u32; rows::NUMBERS]) -> Answer
     ensures { λ r. ⌜ r ≡ linesFault (now (numbers .entry)) ⌝ }
 {
     let mut row: usize = 0;
     let mut line: u32 = 1;
-    while row < 45 {
+    while row < rows::ROWS {
         if rows::present(numbers, row) {
             let fault = row_fault(numbers, row, line);
             if sheet::is_fine(fault) {
@@ -182,13 +185,6 @@ fn reached(points: [Point; 16], count: u32, l19: u32, l20: u32, l47: u32) -> boo
     l19 as u64 + l20 as u64 + l47 as u64 <= last as u64
 }
 
-fn track_fits(phases: [Phase; 8], count: u32, yellow: u32, red: u32) -> bool
-    ensures { λ r. ⌜ r ≡ leb (yellow + red) (line16 (take count phases) .0) ⌝ }
-{
-    let longest = transfer::line16(phases, count);
-    yellow as u64 + red as u64 <= longest.0
-}
-
 // The first of refusals 7 to 10.
 pub fn whole_fault(s: Sheet) -> Answer
     ensures { λ r. ⌜ r ≡ wholeFault s ⌝ }
@@ -199,7 +195,7 @@ pub fn whole_fault(s: Sheet) -> Answer
     let warning = refuse_unless(warned(s.l19, s.l31), Refusal::WarningTooShort, 0);
     let far = reached(points, s.point_count, s.l19, s.l20, s.l47);
     let distance = refuse_unless(far, Refusal::BeyondLastPoint, 0);
-    let fits = track_fits(phases, s.phase_count, s.track_yellow, s.track_red);
+    let fits = transfer::track_fits(phases, s.phase_count, s.track_yellow, s.track_red);
     let track = refuse_unless(fits, Refusal::TrackLongerThanTransfer, 0);
     or_else(storage, or_else(warning, or_else(distance, track)))
 }
@@ -208,7 +204,7 @@ pub fn whole_fault(s: Sheet) -> Answer
 pub fn accept(s: Sheet) -> Answer
     ensures { λ r. ⌜ r ≡ acceptOf s ⌝ }
 {
-    let numbers = rows::flat(s);
+    let numbers = numbers::flat(s);
     let lines = lines_fault(&numbers);
     or_else(lines, whole_fault(s))
 }

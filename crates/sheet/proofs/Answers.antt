@@ -28,6 +28,10 @@ unfolding orElse
 both-fine Fine b e = (refl, e)
 both-fine (Refused r l) b e = never (λ i. isFine (e i))
 
+pub fine-both : (a b : Answer) → a ≡ Fine → b ≡ Fine → orElse a b ≡ Fine
+unfolding orElse
+fine-both a b p q = rw p q
+
 -- a test holds where it refuses nothing
 pub passes : (b : Bool) (r : Refusal) (l : ℕ) → unless b r l ≡ Fine → b ≡ true
 unfolding unless

@@ -1,2 +1,3 @@
 pub mod Refusals
 pub mod Zero
+pub mod Entries

@@ -7,6 +7,8 @@ use Rattle.transfer.proofs.worst.Kinds as worst-kinds
 use Rattle.transfer.proofs.worst.Reads as worst-reads
 use Rattle.transfer.proofs.line16.Kinds as line16-kinds
 use Rattle.transfer.proofs.line16.Reads as line16-reads
+use Rattle.transfer.proofs.track_fits.Kinds as track-fits-kinds
+use Rattle.transfer.proofs.track_fits.Reads as track-fits-reads
 
 pub time-fixed : Fixes 0 time-kinds.ps time-kinds.r time-reads.Learnt
 time-fixed κs a z z′ w w′ p q = (p ∙ sym q, refl)
@@ -25,3 +27,9 @@ line16-fixed κs a z z′ w w′ p q = (p ∙ sym q, refl)
 
 pub line16-open : AsksNothing 0 line16-kinds.ps line16-reads.Asked
 line16-open κs a = tt
+
+pub track-fits-fixed : Fixes 0 track-fits-kinds.ps track-fits-kinds.r track-fits-reads.Learnt
+track-fits-fixed κs a z z′ w w′ p q = (p ∙ sym q, refl)
+
+pub track-fits-open : AsksNothing 0 track-fits-kinds.ps track-fits-reads.Asked
+track-fits-open κs a = tt

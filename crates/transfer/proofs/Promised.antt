@@ -1,5 +1,6 @@
 -- The promises of the transfer hold: each by going along the list, from whatever phase is held so far. Assumes nothing.
-use mathlib.Core.Path.{_≡_, refl, ap}
+use mathlib.Core.Path.{_≡_, refl, sym, ap, subst}
+use mathlib.Core.Bool.{true, false}
 use mathlib.Core.List.{List, [], _∷_}
 use mathlib.Core.Logic.{_⊎_, inl, inr, ⊎-elim}
 use Prim.Native.Nat.{ℕ, zero, suc, _≤_, _<_}
@@ -8,7 +9,7 @@ use native.Mathlib.Omega.{arith}
 use lib.Dec.{ltb, leb, eqb}
 use lib.ListN.{length}
 use borrow.Author.Tests.{ltb-true, ltb-false, leb-true, leb-false}
-use Rattle.units.proofs.All.{All}
+use Rattle.units.specs.Lists.{All}
 use Rattle.units.proofs.Steps.{steps, cases, split}
 use Rattle.units.specs.Numbers.{pick, tenths}
 use Rattle.units.specs.declared.Tenths.{Tenths}
@@ -16,8 +17,8 @@ use Rattle.sheet.specs.declared.Phase.{Phase}
 use Rattle.sheet.specs.Zero.{zeroPhase}
 use Rattle.transfer.specs.declared.Users.{Users}
 use Rattle.transfer.specs.declared.Users.the-variants.{Vehicles, Pedestrians}
-use Rattle.transfer.specs.Promises.{nth, Largest, Listed, LowestOnTie, NoPedestrians, Sixteen, Bounded, AtMost}
-use Rattle.transfer.specs.Transfer.{pedestrianTime, timeOf, worseOf, worstFrom, worstOf, line16}
+use Rattle.transfer.specs.Promises.{nth, Largest, Shown, Listed, LowestOnTie, NoPedestrians, Sixteen, Bounded, AtMost, AboveSixteen, WithinSixteen, TrackFits}
+use Rattle.transfer.specs.Transfer.{pedestrianTime, timeOf, worseOf, worstFrom, worstOf, line16, trackFits}
 
 module _ (of : Users) where
   abbrev time : Phase → ℕ
@@ -83,22 +84,38 @@ module _ (of : Users) where
       (of-both (λ (m : Phase). time m < time (nth qs k)) p q l (before 0 (omega arith)))
       (λ j i. before (suc j) (omega arith))
 
--- the first, or one of the list
-abbrev Among : Phase → List Phase → Phase → Type 0
-Among p ps r = (r ≡ p) ⊎ ((k : ℕ) × (k < length ps) × (r ≡ nth ps k))
+  -- the first, or one of the list that is larger
+  abbrev Among : Phase → List Phase → Phase → Type 0
+  Among p ps r = (r ≡ p) ⊎ ((time p < time r) × Shown of ps r)
 
-further : (p q r : Phase) (qs : List Phase) → (k : ℕ) × (k < length qs) × (r ≡ nth qs k) → Among p (q ∷ qs) r
-further p q r qs w = inr (suc (w .0), omega arith, w .2)
+  none-before : (q : Phase) (qs : List Phase) (t k : ℕ) → time q < t → ((j : ℕ) → j < k → time (nth qs j) < t) → (j : ℕ) → j < suc k → time (nth (q ∷ qs) j) < t
+  none-before q qs t k h f zero l = h
+  none-before q qs t k h f (suc j) l = f j (le-of-suc-le-suc l)
 
-among : (of : Users) (p : Phase) (ps : List Phase) → Among p ps (worstFrom of p ps)
-unfolding worstFrom
-among of p [] = inl refl
-among of p (q ∷ qs) =
-    let r = worstFrom of (worseOf of p q) qs in
-    of-both of (λ (m : Phase). Among m qs r → Among p (q ∷ qs) r) p q
-    (⊎-elim inl (further p q r qs))
-    (⊎-elim (λ e. inr (0, omega arith, e)) (further p q r qs))
-    (among of (worseOf of p q) qs)
+  further : (q r : Phase) (qs : List Phase) → time q < time r → Shown of qs r → Shown of (q ∷ qs) r
+  further q r qs h w =
+      record { place = suc (w .place); inside = omega (arith, w .inside); is = w .is; first = none-before q qs (time r) (w .place) h (w .first) }
+
+  starts : (p q r : Phase) (qs : List Phase) → time p < time q → Among q qs r → Among p (q ∷ qs) r
+  starts p q r qs h =
+      ⊎-elim
+      (λ e. inr (rw e h, record { place = 0; inside = omega arith; is = e; first = λ j l. absurd (not-suc-le-zero l) }))
+      (λ w. inr (omega (arith, w .0), further q r qs (w .0) (w .1)))
+
+  goes-on : (p q r : Phase) (qs : List Phase) → time q ≤ time p → Among p qs r → Among p (q ∷ qs) r
+  goes-on p q r qs h = ⊎-elim inl (λ w. inr (w .0, further q r qs (omega (arith, w .0)) (w .1)))
+
+  among : (p : Phase) (ps : List Phase) → Among p ps (worstFrom of p ps)
+  unfolding worstFrom
+  among p [] = inl refl
+  among p (q ∷ qs) =
+      split (ltb (time p) (time q))
+      (λ e.
+      let h = ltb-true (time p) (time q) e in
+      subst (λ (m : Phase). Among p (q ∷ qs) (worstFrom of m qs)) (later p q h) (starts p q (worstFrom of q qs) qs h (among q qs)))
+      (λ e.
+      let h = ltb-false (time p) (time q) e in
+      subst (λ (m : Phase). Among p (q ∷ qs) (worstFrom of m qs)) (kept p q h) (goes-on p q (worstFrom of p qs) qs h (among p qs)))
 
 zero-time : (of : Users) → timeOf of zeroPhase .0 ≡ 0
 unfolding timeOf pedestrianTime pick
@@ -108,13 +125,25 @@ zero-time Pedestrians = refl
 pub largest : Largest
 largest of ps = largest-from of zeroPhase ps
 
+pub shown-above : (of : Users) (ps : List Phase) → 0 < timeOf of (worstOf of ps) .0 → Shown of ps (worstOf of ps)
+shown-above of ps h =
+    ⊎-elim (λ e. absurd (omega (arith, zero-time of, ap (λ (p : Phase). timeOf of p .0) e))) (λ w. w .1) (among of zeroPhase ps)
+
+none-above : (of : Users) (ps : List Phase) → ((k : ℕ) → k < length ps → timeOf of (nth ps k) .0 ≡ 0) → worstOf of ps ≡ zeroPhase
+none-above of ps none =
+    ⊎-elim (λ e. e)
+    (λ w.
+    let s = w .1 in
+    absurd (omega (arith, w .0, none (s .place) (s .inside), ap (λ (p : Phase). timeOf of p .0) (s .is))))
+    (among of zeroPhase ps)
+
 pub listed : Listed
-listed of ps = among of zeroPhase ps
+listed of ps = (λ k h above. shown-above of ps (omega (arith, largest of ps k h)), none-above of ps)
 
 pub lowest-on-tie : LowestOnTie
 lowest-on-tie of ps k h e above before = first-of of zeroPhase ps k h e (omega (arith, zero-time of)) before
 
-no-time : (p : Phase) → p .mode ≡ 0 → timeOf Pedestrians p .0 ≡ 0
+pub no-time : (p : Phase) → p .mode ≡ 0 → timeOf Pedestrians p .0 ≡ 0
 unfolding timeOf pedestrianTime pick
 no-time p e = rw e refl
 
@@ -160,3 +189,12 @@ worst-at-most of ps a = time-at-most of (worstOf of ps) (of-all of Bounded zeroP
 
 pub at-most : AtMost
 at-most ps a = (λ of. worst-at-most of ps a, omega (arith, worst-at-most Vehicles ps a, worst-at-most Pedestrians ps a))
+
+within : (ps : List Phase) (yellow red : ℕ) → WithinSixteen ps yellow red → true ≡ trackFits ps yellow red
+within ps yellow red h = search steps
+
+above : (ps : List Phase) (yellow red : ℕ) → AboveSixteen ps yellow red → false ≡ trackFits ps yellow red
+above ps yellow red h = search steps
+
+pub track-fits : TrackFits
+track-fits ps yellow red = (λ h. sym (within ps yellow red h), λ h. sym (above ps yellow red h))

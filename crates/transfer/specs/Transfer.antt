@@ -1,7 +1,8 @@
 -- The right-of-way transfer, lines 4 to 16, over the listed phases.
-use Prim.Native.Nat.{_+_, max}
+use Prim.Native.Nat.{ℕ, _+_, max}
+use mathlib.Core.Bool.{Bool}
 use mathlib.Core.List.{List, [], _∷_}
-use lib.Dec.{eqb, ltb}
+use lib.Dec.{eqb, leb, ltb}
 use Rattle.units.specs.declared.Tenths.{Tenths}
 use Rattle.units.specs.Numbers.{pick, tenths}
 use Rattle.sheet.specs.declared.Phase.{Phase}
@@ -33,12 +34,15 @@ worstFrom of p (q ∷ qs) = worstFrom of (worseOf of p q) qs
 
 -- "Lines 4 to 9 show the phase with the largest vehicle time, 10 to 15 the phase with the largest pedestrian time among modes 1 and 2;
 -- on a tie the lowest number. If all are mode 0, 10 to 15 are 0."
--- It starts from the phase of zeros, whose times are 0. A listed phase has a yellow of at least 30, and in mode 2 a clearance of at least
--- yellow + red, so every vehicle time, and every pedestrian time of modes 1 and 2, is above 0 and displaces it; in mode 0 the time is 0
--- and never does. So what is left where all are mode 0 is the phase of zeros, and lines 10 to 15 are its.
+-- It starts from the phase of zeros, which only a time above 0 displaces. That a listed phase always does on lines 4 to 9 of an accepted
+-- sheet, and on 10 to 15 unless all are mode 0, is a law: `VehicleLines` and `PedestrianLines` of the lines.
 abbrev pub worstOf : Users → List Phase → Phase
 worstOf of ps = worstFrom of zeroPhase ps
 
 -- "16 is the larger of 9 and 15"
 abbrev pub line16 : List Phase → Tenths
 line16 ps = tenths (max (timeOf Vehicles (worstOf Vehicles ps) .0) (timeOf Pedestrians (worstOf Pedestrians ps) .0))
+
+-- refusal 10 is "track yellow + red above line 16": whether they are not above it
+abbrev pub trackFits : List Phase → ℕ → ℕ → Bool
+trackFits ps yellow red = leb (yellow + red) (line16 ps .0)

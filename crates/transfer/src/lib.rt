@@ -1,7 +1,7 @@
 // The right-of-way transfer, lines 4 to 16: the phase that keeps vehicles longest, the one that keeps pedestrians longest, and the larger time.
 ghost use mathlib.Core.Path.{_≡_};
 ghost use lib.ListN.{take};
-ghost use Rattle.transfer.specs.Transfer.{vehicleTime, pedestrianTime, timeOf, worseOf, worstOf, line16};
+ghost use Rattle.transfer.specs.Transfer.{vehicleTime, pedestrianTime, timeOf, worseOf, worstOf, line16, trackFits};
 use sheet::Phase;
 use units::Tenths;
 
@@ -67,4 +67,12 @@ pub fn line16(phases: [Phase; 8], count: u32) -> Tenths
     let l09 = time(Users::Vehicles, worst(Users::Vehicles, phases, count));
     let l15 = time(Users::Pedestrians, worst(Users::Pedestrians, phases, count));
     Tenths(units::larger(l09.0, l15.0))
+}
+
+// Whether the track's yellow and red together are not above line 16.
+pub fn track_fits(phases: [Phase; 8], count: u32, yellow: u32, red: u32) -> bool
+    ensures { λ r. ⌜ r ≡ trackFits (take count phases) yellow red ⌝ }
+{
+    let l16 = line16(phases, count);
+    yellow as u64 + red as u64 <= l16.0
 }

@@ -1,18 +1,16 @@
--- A fact of every entry of a list, and what it says at a place of the list, by walking there. Assumes nothing.
+-- What a fact of every entry of a list says at a place of the list, by walking there. Assumes nothing.
 use mathlib.Core.List.{List, [], _∷_}
 use Prim.Native.Nat.{ℕ, zero, suc, _<_}
+use native.Mathlib.Nat.{not-suc-le-zero, le-of-suc-le-suc}
 use native.Mathlib.Omega.{arith}
 use lib.ListN.{getD, length}
+use Rattle.units.specs.Lists.{All}
 
-abbrev pub All : {A : Type 0} → (A → Type 0) → List A → Type 0
-All P [] = Unit {0}
-All P (x ∷ xs) = P x × All P xs
-
--- at any place, inside the list or past it
-pub all-at : {A : Type 0} (P : A → Type 0) (xs : List A) (d : A) → All P xs → P d → (k : ℕ) → P (getD xs k d)
-all-at P [] d a h k = h
-all-at P (x ∷ xs) d a h zero = a .0
-all-at P (x ∷ xs) d a h (suc k) = all-at P xs d (a .1) h k
+-- at a place inside the list
+pub all-in : {A : Type 0} (P : A → Type 0) (xs : List A) (d : A) → All P xs → (k : ℕ) → k < length xs → P (getD xs k d)
+all-in P [] d a k h = absurd (not-suc-le-zero h)
+all-in P (x ∷ xs) d a zero h = a .0
+all-in P (x ∷ xs) d a (suc k) h = all-in P xs d (a .1) k (le-of-suc-le-suc h)
 
 -- what holds at every place of a list holds of all of it
 pub all-from : {A : Type 0} (P : A → Type 0) (xs : List A) (d : A) → ((k : ℕ) → k < length xs → P (getD xs k d)) → All P xs

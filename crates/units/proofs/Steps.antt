@@ -36,6 +36,13 @@ arm4 f p q x s v r e h = rw e h
 pub mid : {P Q A B : Type 0} (f : P → A → Q → B) (p : P) (q : Q) (s v : A) (r : B) → s ≡ v → r ≡ f p v q → r ≡ f p s q
 mid f p q s v r e h = rw e h
 
+-- the same where the value matched is the first of two, or the last of five
+pub head2 : {A P B : Type 0} (f : A → P → B) (s v : A) (p : P) (r : B) → s ≡ v → r ≡ f v p → r ≡ f s p
+head2 f s v p r e h = rw e h
+
+pub arm5 : {P Q R S A B : Type 0} (f : P → Q → R → S → A → B) (p : P) (q : Q) (x : R) (y : S) (s v : A) (r : B) → s ≡ v → r ≡ f p q x y v → r ≡ f p q x y s
+arm5 f p q x y s v r e h = rw e h
+
 -- a definition taken apart at its test
 pub cases : {A : Type 0} (P : A → Type 0) (b : Bool) (x y : A) → (b ≡ true → P x) → (b ≡ false → P y) → P (pick b x y)
 unfolding pick

@@ -9,10 +9,8 @@ use native.Mathlib.Omega.{arith}
 use lib.Dec.{T, eqb}
 use lib.ListN.{getD}
 use borrow.Author.Tests.{eqb-true, eqb-false}
-
-abbrev pub also : Bool → Bool → Bool
-also true b = b
-also false b = false
+-- the tests that these laws are of
+pub use Rattle.units.specs.Lists.{also, all}
 
 pub also-left : (a b : Bool) → T (also a b) → T a
 also-left true b t = tt
@@ -43,11 +41,6 @@ last f n t k below h false e = below (omega (arith, eqb-false k n e))
 pub at : (f : ℕ → Bool) (n : ℕ) → T (allBelow f n) → (k : ℕ) → k < n → T (f k)
 at f zero t k h = absurd (not-suc-le-zero h)
 at f (suc n) t k h = last f n (also-left (f n) (allBelow f n) t) k (at f n (also-right (f n) (allBelow f n) t) k) h (eqb k n) refl
-
--- the test passes at each entry of the list
-abbrev pub all : {A : Type 0} → (A → Bool) → List A → Bool
-all f [] = true
-all f (x ∷ xs) = also (f x) (all f xs)
 
 -- at any place, inside the list or past it, where the test passes at what stands for an entry past the end
 pub entry : {A : Type 0} (f : A → Bool) (xs : List A) (d : A) → T (all f xs) → T (f d) → (k : ℕ) → T (f (getD xs k d))

@@ -2,6 +2,7 @@
 use mathlib.Core.Path.{_≡_, _∙_, sym, ap}
 use Prim.Native.Nat.{_+_, _-_, _≤_}
 use Rattle.sheet.specs.Refusals.{isFine}
+use Rattle.rows.specs.Table.{rowCount}
 use Rattle.accept.specs.Lines.{faultFrom}
 use Rattle.accept.proofs.Along.{absent, fine-row, bad-row, no-more}
 use borrow.Author.Needs.{needs}
@@ -10,10 +11,10 @@ use Rattle.accept.proofs.lines_fault.Statement.{statement}
 use Rattle.accept.proofs.lines_fault.Tie as tie
 
 abbrev Inv-loop : tie.InvT-loop
-Inv-loop numbers row₀ line₀ row line = (line ≤ row + 1) × (faultFrom numbers (45 - row) row line ≡ faultFrom numbers 45 0 1)
+Inv-loop numbers row₀ line₀ row line = (line ≤ row + 1) × (faultFrom numbers (rowCount - row) row line ≡ faultFrom numbers rowCount 0 1)
 
 abbrev μ-loop : tie.MeasureT-loop
-μ-loop numbers row₀ line₀ row line = 45 - row
+μ-loop numbers row₀ line₀ row line = rowCount - row
 
 loop-holds : tie.Need-loop-holds Inv-loop μ-loop
 loop-holds c = search needs

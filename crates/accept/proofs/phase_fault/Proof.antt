@@ -7,14 +7,14 @@ use Rattle.accept.proofs.phase_fault.Tie as tie
 refuse-unless-requires : tie.Need-refuse-unless-requires
 refuse-unless-requires c κs = search needs
 
-no-pedestrians-requires : tie.Need-no-pedestrians-requires
-no-pedestrians-requires c κs = search needs
+quiet-in-mode-zero-requires : tie.Need-quiet-in-mode-zero-requires
+quiet-in-mode-zero-requires c κs = search needs
 
 refuse-unless-requires-2 : tie.Need-refuse-unless-requires-2
 refuse-unless-requires-2 c κs = search needs
 
-clears-late-requires : tie.Need-clears-late-requires
-clears-late-requires c κs = search needs
+clears-yellow-and-red-requires : tie.Need-clears-yellow-and-red-requires
+clears-yellow-and-red-requires c κs = search needs
 
 refuse-unless-requires-3 : tie.Need-refuse-unless-requires-3
 refuse-unless-requires-3 c κs = search needs
@@ -35,9 +35,9 @@ phase-fault-spec =
     tie.close
     (tie.spec
     refuse-unless-requires
-    no-pedestrians-requires
+    quiet-in-mode-zero-requires
     refuse-unless-requires-2
-    clears-late-requires
+    clears-yellow-and-red-requires
     refuse-unless-requires-3
     or-else-requires
     or-else-requires-2

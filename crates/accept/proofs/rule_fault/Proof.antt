@@ -3,9 +3,10 @@ use mathlib.Core.Path.{_≡_, _∙_, sym, ap, refl}
 use Rattle.units.proofs.Steps.{pick-yes, pick-not}
 use borrow.Author.Tests.{eq-eqb, ne-eqb}
 use Prim.Native.Nat.{_-_}
-use Rattle.rows.specs.Flat.{phaseAt}
+use Rattle.numbers.specs.Flat.{phaseAt}
 use Rattle.sheet.specs.declared.Refusal.the-variants.{PointsDontRise}
 use Rattle.sheet.specs.Refusals.{unless}
+use Rattle.rows.specs.Table.{firstPhase, firstPoint}
 use Rattle.accept.specs.Lines.{ruleFault, phaseFault, beforePhase, pointFits}
 use borrow.Author.Needs.{needs}
 use Rattle.accept.proofs.rule_fault.Statement.{statement}
@@ -30,8 +31,8 @@ returns : tie.Need-returns
 unfolding ruleFault
 returns c =
     let v = c .before .before .before .before .before .before .args .numbers .now in
-    let b : c .before .before .before-phase .result ≡ beforePhase v (c .before .before .before .before .before .before .args .row - 6) = c .before .before .before-phase .ensures ∙ ap (beforePhase v) (c .before .before .before .after .ensures) in
-    let p : c .before .phase-at .result ≡ phaseAt v (c .before .before .before .before .before .before .args .row - 6) = c .before .phase-at .ensures ∙ ap (phaseAt v) (c .before .before .before .after .ensures) in
+    let b : c .before .before .before-phase .result ≡ beforePhase v (c .before .before .before .before .before .before .args .row - firstPhase) = c .before .before .before-phase .ensures ∙ ap (beforePhase v) (c .before .before .before .after .ensures) in
+    let p : c .before .phase-at .result ≡ phaseAt v (c .before .before .before .before .before .before .args .row - firstPhase) = c .before .phase-at .ensures ∙ ap (phaseAt v) (c .before .before .before .after .ensures) in
     pick-yes _ _ _ _ (eq-eqb _ _ (sym (c .before .before .before .before .before .kind .ensures) ∙ c .before .before .before .before .if1 .taken)) (c .phase-fault .ensures ∙ λ i. phaseFault (b i) (p i) (c .before .before .before .before .before .before .args .line))
 
 after-requires-2 : tie.Need-after-requires-2
@@ -46,7 +47,7 @@ refuse-unless-requires c κs = search needs
 returns-2 : tie.Need-returns-2
 unfolding ruleFault
 returns-2 c =
-    let f : c .before .point-fits .result ≡ pointFits (c .before .before .before .before .before .before .args .numbers .now) (c .before .before .before .before .before .before .args .row - 29) = c .before .point-fits .ensures ∙ ap (pointFits (c .before .before .before .before .before .before .args .numbers .now)) (c .before .before .after2 .ensures) in
+    let f : c .before .point-fits .result ≡ pointFits (c .before .before .before .before .before .before .args .numbers .now) (c .before .before .before .before .before .before .args .row - firstPoint) = c .before .point-fits .ensures ∙ ap (pointFits (c .before .before .before .before .before .before .args .numbers .now)) (c .before .before .after2 .ensures) in
     pick-not _ _ _ _ (ne-eqb _ _ (λ e. c .before .before .before .before .if1 .left (c .before .before .before .before .before .kind .ensures ∙ e)))
     (pick-yes _ _ _ _ (eq-eqb _ _ (sym (c .before .before .before .before .before .kind .ensures) ∙ c .before .before .before .if2 .taken)) (c .refuse-unless .ensures ∙ λ i. unless (f i) PointsDontRise (c .before .before .before .before .before .before .args .line)))
 

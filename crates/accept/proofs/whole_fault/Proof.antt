@@ -1,9 +1,5 @@
 -- `accept::whole_fault` meets its contract: the four in order. Assumes nothing.
 use borrow.Author.Needs.{needs}
-use mathlib.Core.Path.{_∙_, ap}
-use mathlib.Core.Bool.{Bool}
-use Rattle.sheet.specs.declared.Refusal.the-variants.{WarningTooShort, BeyondLastPoint, TrackLongerThanTransfer}
-use Rattle.sheet.specs.Refusals.{orElse, unless}
 use Rattle.accept.specs.Whole.{wholeFault}
 use Rattle.accept.proofs.whole_fault.Statement.{statement}
 use Rattle.accept.proofs.whole_fault.Tie as tie
@@ -41,13 +37,18 @@ or-else-requires-3 c κs = search needs
 returns : tie.Need-returns
 unfolding wholeFault
 returns c =
-    let storage = c .before .before .before .before .before .before .before .before .before .refuse-unless .ensures in
-    let warning = c .before .before .before .before .before .before .before .refuse-unless2 .ensures ∙ ap (λ (b : Bool). unless b WarningTooShort 0) (c .before .before .before .before .before .before .before .before .warned .ensures) in
-    let distance = c .before .before .before .before .before .refuse-unless3 .ensures ∙ ap (λ (b : Bool). unless b BeyondLastPoint 0) (c .before .before .before .before .before .before .reached .ensures) in
-    let track = c .before .before .before .refuse-unless4 .ensures ∙ ap (λ (b : Bool). unless b TrackLongerThanTransfer 0) (c .before .before .before .before .track-fits .ensures) in
-    let last = c .before .before .or-else .ensures ∙ λ i. orElse (distance i) (track i) in
-    let rest = c .before .or-else2 .ensures ∙ λ i. orElse (warning i) (last i) in
-    c .or-else3 .ensures ∙ λ i. orElse (storage i) (rest i)
+    rw (
+      c .or-else3 .ensures,
+      c .before .or-else2 .ensures,
+      c .before .before .or-else .ensures,
+      c .before .before .before .refuse-unless4 .ensures,
+      c .before .before .before .before .track-fits .ensures,
+      c .before .before .before .before .before .refuse-unless3 .ensures,
+      c .before .before .before .before .before .before .reached .ensures,
+      c .before .before .before .before .before .before .before .refuse-unless2 .ensures,
+      c .before .before .before .before .before .before .before .before .warned .ensures,
+      c .before .before .before .before .before .before .before .before .before .refuse-unless .ensures,
+    )
 
 pub whole-fault-spec : {M : Type 1} → statement M
 whole-fault-spec =

@@ -37,7 +37,7 @@ module _ (c : tie.After-smaller Inv-loop μ-loop) where
   fits = omega (arith, long)
 
   same : take (c .smaller .result) ps ≡ take (c .before .args .count) ps
-  same = ap (λ (m : ℕ). take m ps) (c .smaller .ensures) ∙ counted ps (c .before .args .count) 8 long
+  same = ap (λ (m : ℕ). take m ps) (c .smaller .ensures) ∙ counted ps (c .before .args .count) _ (search needs)
 
 loop-holds : tie.Need-loop-holds Inv-loop μ-loop
 loop-holds c = ap (λ (z : Phase). worstFrom (c .before .before .args .of) z (take (c .before .smaller .result) (ps (c .before)))) (sym (c .zero-phase .ensures))

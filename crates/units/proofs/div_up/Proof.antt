@@ -27,7 +27,7 @@ returns-2 : tie.Need-returns-2
 returns-2 c = sym (up-exact (c .before .before .args .n) (c .before .before .args .d) (omega arith) (c .if2 .taken))
 
 returns-3 : tie.Need-returns-3
-returns-3 c = sym (up-more (c .before .before .args .n) (c .before .before .args .d) (omega arith) (c .if2 .left))
+returns-3 c = omega (arith, up-more (c .before .before .args .n) (c .before .before .args .d) (omega arith) (c .if2 .left))
 
 pub div-up-spec : {M : Type 1} → statement M
 div-up-spec = tie.close (tie.spec returns div-q mul-if2 add-result returns-2 returns-3)

@@ -1,7 +1,7 @@
--- `accept::track_fits` meets its contract: against line 16. Assumes nothing.
+-- `transfer::track_fits` meets its contract: against line 16. Assumes nothing.
 use borrow.Author.Needs.{needs}
-use Rattle.accept.proofs.track_fits.Statement.{statement}
-use Rattle.accept.proofs.track_fits.Tie as tie
+use Rattle.transfer.proofs.track_fits.Statement.{statement}
+use Rattle.transfer.proofs.track_fits.Tie as tie
 
 line16-requires : tie.Need-line16-requires
 line16-requires c κs = search needs
@@ -10,8 +10,7 @@ add-result : tie.Need-add-result
 add-result c = search needs
 
 returns : tie.Need-returns
-returns c =
-    rw (c .before .line16 .ensures)
+returns c = rw (c .before .line16 .ensures)
 
 pub track-fits-spec : {M : Type 1} → statement M
 track-fits-spec = tie.close (tie.spec line16-requires add-result returns)
