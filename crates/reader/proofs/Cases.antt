@@ -11,7 +11,7 @@ use Rattle.units.proofs.Walk.{rest-at}
 use Rattle.sheet.specs.declared.Answer.{Answer}
 use Rattle.sheet.specs.declared.Sheet.{Sheet}
 use Rattle.sheet.specs.Refusals.{isFine}
-use Rattle.rows.specs.Table.{present}
+use Rattle.rows.specs.Table.{rowCount, present}
 use Rattle.rows.specs.Marks.{markOf}
 use Rattle.accept.specs.Lines.{lineAfter}
 use Rattle.reader.specs.declared.Figure.the-variants.{Bad, Is}
@@ -95,23 +95,23 @@ module _ (s : List ℕ) (form place n j p : ℕ) (v : List ℕ) where
 
 -- all lines, from a row on
 module _ (s : List ℕ) (row line at : ℕ) (v : List ℕ) where
-  pub lines-end : 45 ≤ row → linesFrom s (45 - row) row line at v ≡ endAt s line at v
+  pub lines-end : rowCount ≤ row → linesFrom s (rowCount - row) row line at v ≡ endAt s line at v
   unfolding linesFrom
-  lines-end h = let e : 45 - row ≡ 0 = omega arith in rw e
+  lines-end h = let e : rowCount - row ≡ 0 = omega arith in rw e
 
-  pub lines-absent : row < 45 → present v row ≡ false → linesFrom s (45 - row) row line at v ≡ linesFrom s (45 - (row + 1)) (row + 1) line at v
+  pub lines-absent : row < rowCount → present v row ≡ false → linesFrom s (rowCount - row) row line at v ≡ linesFrom s (rowCount - (row + 1)) (row + 1) line at v
   unfolding linesFrom hereAt lineAfter pick
-  lines-absent h a = let e : 45 - row ≡ suc (45 - (row + 1)) = omega arith in rw (e, a)
+  lines-absent h a = let e : rowCount - row ≡ suc (rowCount - (row + 1)) = omega arith in rw (e, a)
 
   module _ (t : Step) (taken : t ≡ judgedAt s at row line v) where
-    pub lines-bad : row < 45 → present v row ≡ true → isFine (t .answer) ≡ false → linesFrom s (45 - row) row line at v ≡ t
+    pub lines-bad : row < rowCount → present v row ≡ true → isFine (t .answer) ≡ false → linesFrom s (rowCount - row) row line at v ≡ t
     unfolding linesFrom hereAt lineAfter pick
-    lines-bad h a b = let e : 45 - row ≡ suc (45 - (row + 1)) = omega arith in rw (e, a, ← taken, b)
+    lines-bad h a b = let e : rowCount - row ≡ suc (rowCount - (row + 1)) = omega arith in rw (e, a, ← taken, b)
 
-    pub lines-step : row < 45 → present v row ≡ true → isFine (t .answer) ≡ true
-        → linesFrom s (45 - row) row line at v ≡ linesFrom s (45 - (row + 1)) (row + 1) (line + 1) (t .next) (t .numbers)
+    pub lines-step : row < rowCount → present v row ≡ true → isFine (t .answer) ≡ true
+        → linesFrom s (rowCount - row) row line at v ≡ linesFrom s (rowCount - (row + 1)) (row + 1) (line + 1) (t .next) (t .numbers)
     unfolding linesFrom hereAt lineAfter pick
-    lines-step h a b = let e : 45 - row ≡ suc (45 - (row + 1)) = omega arith in rw (e, a, ← taken, b)
+    lines-step h a b = let e : rowCount - row ≡ suc (rowCount - (row + 1)) = omega arith in rw (e, a, ← taken, b)
 
 -- a refusal comes with the zero sheet, whatever was read
 pub reply-bad : (a : Answer) (s t : Sheet) → isFine a ≡ false → reply a s ≡ reply a t

@@ -5,6 +5,8 @@ use Rattle.reader.proofs.number.Kinds as number-kinds
 use Rattle.reader.proofs.number.Reads as number-reads
 use Rattle.reader.proofs.after.Kinds as after-kinds
 use Rattle.reader.proofs.after.Reads as after-reads
+use Rattle.reader.proofs.buffer.Kinds as buffer-kinds
+use Rattle.reader.proofs.buffer.Reads as buffer-reads
 use Rattle.reader.proofs.read.Kinds as read-kinds
 use Rattle.reader.proofs.read.Reads as read-reads
 
@@ -25,3 +27,9 @@ read-fixed κs a z z′ w w′ p q = (p ∙ sym q, refl)
 
 pub read-open : AsksNothing 1 read-kinds.ps read-reads.Asked
 read-open κs a = tt
+
+pub buffer-fixed : Fixes 0 buffer-kinds.ps buffer-kinds.r buffer-reads.Learnt
+buffer-fixed κs a z z′ w w′ p q = (p ∙ sym q, refl)
+
+pub buffer-open : AsksNothing 0 buffer-kinds.ps buffer-reads.Asked
+buffer-open κs a = tt

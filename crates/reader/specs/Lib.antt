@@ -1,3 +1,4 @@
 pub mod Figures
 pub mod Line
 pub mod Read
+pub mod Promises

@@ -10,8 +10,8 @@ use Rattle.sheet.specs.declared.Answer.the-variants.{Fine, Refused}
 use Rattle.sheet.specs.declared.Refusal.the-variants.{Malformed}
 use Rattle.sheet.specs.Refusals.{isFine, orElse}
 use Rattle.sheet.specs.Zero.{zeroSheet}
-use Rattle.rows.specs.Table.{present}
-use Rattle.rows.specs.Flat.{sheetOf}
+use Rattle.rows.specs.Table.{rowCount, numberCount, present}
+use Rattle.numbers.specs.Flat.{sheetOf}
 use Rattle.accept.specs.Lines.{rowFault, lineAfter}
 use Rattle.accept.specs.Whole.{wholeFault}
 use Rattle.reader.specs.declared.Reading.{Reading}
@@ -57,7 +57,7 @@ linesFrom s (suc n) row line at v =
 
 -- "Array entries past a count are no part of a sheet; reading leaves them 0"
 abbrev pub linesOf : List ℕ → Step
-linesOf s = linesFrom s 45 0 1 0 (replicate 118 0)
+linesOf s = linesFrom s rowCount 0 1 0 (replicate numberCount 0)
 
 -- "A refused read .. gives only zeros beside its number (vehicle car)"
 unfoldable pub reply : Answer → Sheet → Reading

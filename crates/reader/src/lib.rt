@@ -2,15 +2,24 @@
 ghost use mathlib.Core.Path.{_≡_};
 ghost use Prim.Native.Nat.{ℕ, _+_, _≤_, _<_};
 ghost use mathlib.Core.List.{List};
-ghost use Rattle.rows.specs.Table.{keyOf};
+ghost use lib.ListN.{take};
+ghost use Rattle.rows.specs.Table.{rowCount, numberCount};
+ghost use Rattle.rows.specs.Longest.{longest};
 ghost use Rattle.rows.specs.Marks.{markOf};
 ghost use Rattle.reader.specs.Figures.{digitOf, numberAt, afterAt};
 ghost use Rattle.reader.specs.Line.{onPlace, wordAt, signedAt, fieldAt, soFar, fields, ended, lineAt};
 ghost use Rattle.reader.specs.Read.{step, judgedAt, endAt, linesFrom, reply, readOf};
 ghost use Rattle.reader.specs.declared.Figure.the-variants.{Is};
+use rows::NUMBERS;
+use rows::ROWS;
 use sheet::Answer;
 use sheet::Refusal;
 use sheet::Sheet;
+
+// The longest text that a sheet can have, and room for it and one byte: with so much a program sees that a text is longer.
+pub const LONGEST: usize = 1069;
+
+pub const BUFFER: usize = LONGEST + 1;
 
 // A number found in the text, and the place past it.
 pub enum Figure {
@@ -149,10 +158,10 @@ fn signed(s: &[u8], at: usize) -> Figure
 fn field(s: &[u8], at: usize, form: usize) -> Figure
     ensures { λ r. ⌜ r ≡ fieldAt (now (s .entry)) at form ⌝ }
 {
-    if form == 1 {
+    if form == rows::WORDED {
         return word(s, at);
     }
-    if form == 2 {
+    if form == rows::SIGNED {
         return signed(s, at);
     }
     number(s, at)
@@ -169,18 +178,17 @@ fn mark(s: &[u8], at: usize, j: usize) -> Place
     }
 }
 
-fn key(s: &[u8], at: usize, row: usize) -> Place
-    ensures { λ r. ⌜ r ≡ afterAt (now (s .entry)) at (keyOf row) ⌝ }
+// The place past the first n letters of a key.
+fn key(s: &[u8], at: usize, letters: [u8; 8], n: usize) -> Place
+    requires { ⌜ n ≤ 8 ⌝ }
+    ensures { λ r. ⌜ r ≡ afterAt (now (s .entry)) at (take n letters) ⌝ }
 {
-    let keys = rows::KEYS;
-    let start = rows::key_start(row);
-    let end = rows::key_end(row);
-    after(s, at, &keys[start..end])
+    after(s, at, &letters[0..n])
 }
 
 // n numbers of a line, stored from a place on.
-fn fields(s: &[u8], at: usize, form: usize, place: usize, n: usize, v: &mut [u32; 118]) -> Found
-    requires { ⌜ place + n ≤ 118 ⌝ }
+fn fields(s: &[u8], at: usize, form: usize, place: usize, n: usize, v: &mut [u32; NUMBERS]) -> Found
+    requires { ⌜ place + n ≤ numberCount ⌝ }
     ensures { λ r. ⌜ soFar (r .good) (r .next) (now (v .exit)) ≡ fields (now (s .entry)) form place n 0 at (now (v .entry)) ⌝ }
 {
     let mut p = at;
@@ -237,14 +245,16 @@ fn ended(s: &[u8], found: Found) -> Found
 }
 
 // The line of a row at a place of the text.
-fn line(s: &[u8], at: usize, row: usize, v: &mut [u32; 118]) -> Found
-    requires { ⌜ row < 45 ⌝ }
+fn line(s: &[u8], at: usize, row: usize, v: &mut [u32; NUMBERS]) -> Found
+    requires { ⌜ row < rowCount ⌝ }
     ensures { λ r. ⌜ soFar (r .good) (r .next) (now (v .exit)) ≡ lineAt (now (s .entry)) at row (now (v .entry)) ⌝ }
 {
-    let form = rows::form(row);
+    let facts = rows::facts(row);
+    let letters = facts.0;
+    let form = facts.2;
     let place = rows::place(row);
     let n = rows::width(row);
-    match key(s, at, row) {
+    match key(s, at, letters, facts.1) {
         Place::Nowhere => Found {
             good: false,
             next: 0,
@@ -257,8 +267,8 @@ fn line(s: &[u8], at: usize, row: usize, v: &mut [u32; 118]) -> Found
 }
 
 // The same with its fault, by its line number.
-fn judged(s: &[u8], at: usize, row: usize, number: u32, v: &mut [u32; 118]) -> Reached
-    requires { ⌜ row < 45 ⌝ }
+fn judged(s: &[u8], at: usize, row: usize, number: u32, v: &mut [u32; NUMBERS]) -> Reached
+    requires { ⌜ row < rowCount ⌝ }
     ensures { λ r. ⌜ step (r .answer) (r .next) (now (v .exit)) ≡ judgedAt (now (s .entry)) at row number (now (v .entry)) ⌝ }
 {
     let found = line(s, at, row, v);
@@ -294,13 +304,13 @@ fn end(s: &[u8], number: u32, at: usize) -> Reached
 }
 
 // All lines of the text.
-fn lines(s: &[u8], v: &mut [u32; 118]) -> Reached
-    ensures { λ r. ⌜ step (r .answer) (r .next) (now (v .exit)) ≡ linesFrom (now (s .entry)) 45 0 1 0 (now (v .entry)) ⌝ }
+fn lines(s: &[u8], v: &mut [u32; NUMBERS]) -> Reached
+    ensures { λ r. ⌜ step (r .answer) (r .next) (now (v .exit)) ≡ linesFrom (now (s .entry)) rowCount 0 1 0 (now (v .entry)) ⌝ }
 {
     let mut at: usize = 0;
     let mut number: u32 = 1;
     let mut row: usize = 0;
-    while row < 45 {
+    while row < ROWS {
         if rows::present(v, row) {
             let taken = judged(s, at, row, number, v);
             let answer = taken.answer;
@@ -340,13 +350,20 @@ fn reply(answer: Answer, s: Sheet) -> Reading
 pub fn read(text: &[u8]) -> Reading
     ensures { λ r. ⌜ r ≡ readOf (now (text .entry)) ⌝ }
 {
-    let mut numbers = [0u32; 118];
+    let mut numbers = [0u32; NUMBERS];
     let found = lines(text, &mut numbers);
     let answer = found.answer;
     if sheet::is_fine(answer) {
-        let s = rows::sheet_of(&numbers);
+        let s = numbers::sheet_of(&numbers);
         return reply(accept::whole_fault(s), s);
     }
     let zero = sheet::zero_sheet();
     reply(answer, zero)
+}
+
+// How many bytes of a text decide what it is read as.
+pub fn buffer() -> usize
+    ensures { λ r. ⌜ r ≡ longest + 1 ⌝ }
+{
+    BUFFER
 }

@@ -1,106 +1,125 @@
--- The code's rules for keys and forms are the printed ones: one computed test for each. Assumes nothing.
-use mathlib.Core.Path.{_≡_, refl, ap, sym}
+-- The code's row of a key is the printed one: by the place of its first number, which tells the kind. Assumes nothing.
+use mathlib.Core.Path.{_≡_, refl, ap, sym, _∙_}
 use mathlib.Core.Bool.{Bool, true, false}
-use mathlib.Core.List.{List, [], _∷_}
-use Prim.Native.Nat.{ℕ, suc, _+_, _-_, _*_, _<_, _≤_}
+use mathlib.Core.List.{List, [], _∷_, _++_}
+use Prim.Native.Nat.{ℕ, zero, suc, _+_, _*_, _<_, _≤_}
 use native.Mathlib.Omega.{arith}
-use lib.Dec.{T, eqb, leb, ltb, eqb→eq, leb→le}
-use lib.ListN.{getD, take, drop}
-use borrow.Author.Tests.{ltb-true, ltb-false}
+use lib.Dec.{eqb, ltb, leb, leb→le}
+use lib.ListN.{length, getD, take, replicate}
+use borrow.Author.Tests.{ltb-true, ltb-false, eqb-true}
 use Rattle.units.specs.Numbers.{pick}
 use Rattle.units.proofs.Steps.{split}
-use Rattle.units.proofs.Tested.{also, also-left, also-right, at}
-use Rattle.rows.specs.Table.{bytes, kinds, none, rows, kindOf, formOf, keyOf, startOf, keyStart, keyEnd}
-use Rattle.rows.proofs.Tables.{ruled, kind-few, kind-past}
+use Rattle.units.proofs.Tested.{at}
+use Rattle.rows.specs.declared.table.Key.{Key}
+use Rattle.rows.specs.Table.{Kind, _to_, kinds, none, mostPhases, kindCount, rowCount, numberCount, numbersIn, placeFor, firstPhase, firstPoint, kindOf, keyOf, formOf, rangesOf}
+use Rattle.rows.specs.Facts.{letters, factsOf, headOf}
+use Rattle.rows.proofs.Tables.{ruled, kind-few, kind-past, pastPhases, shift}
 
-unfoldable pub starts : List ℕ
-starts = 0 ∷ 5 ∷ 12 ∷ 17 ∷ 20 ∷ 23 ∷ []
+-- ---- where the kinds start
 
-unfoldable pub ends : List ℕ
-ends = 5 ∷ 12 ∷ 17 ∷ 20 ∷ 23 ∷ 29 ∷ []
+unfoldable pub headRule : ℕ → ℕ
+headRule row =
+    pick (ltb row firstPhase) row
+    (pick (ltb row pastPhases) (placeFor "phase")
+    (pick (ltb row (pastPhases + 1)) (placeFor "track") (pick (ltb row firstPoint) (row + shift) (placeFor "point"))))
 
-unfoldable pub keyBytes : List ℕ
-keyBytes = bytes "issuevehiclegradel01l02phasesphasetrackl18l19l20l28l30l31l33l37l39l47l56l57l58pointspoint"
+pub head-ruled : {x : ℕ} (row : ℕ) → row < rowCount → x ≡ headRule row → x ≡ headOf row
+unfolding headRule kindOf pick
+head-ruled row h e = ruled headRule headOf tt row h e
 
--- ---- the code's rules, in the order of its tests
+pub head-past : (row : ℕ) → rowCount ≤ row → numberCount ≡ headOf row
+head-past row h = ap (λ (k : ℕ). numbersIn (take k kinds)) (sym (kind-past row h))
 
-unfoldable pub formRule : ℕ → ℕ
-formRule row = pick (eqb row 1) 1 (pick (eqb row 2) 2 0)
+abbrev pub headsFrom : ℕ → List Kind → List ℕ
+headsFrom at [] = []
+headsFrom at (x ∷ xs) = at ∷ headsFrom (at + x .lines * length (x .ranges)) xs
 
-unfoldable pub startRule : ℕ → ℕ
-startRule row =
-    pick (ltb row 6) (getD starts row 0)
-    (pick (ltb row 14) 29 (pick (ltb row 15) 34 (pick (ltb row 29) (3 * row - 6) 84)))
+abbrev pub heads : List ℕ
+heads = headsFrom 0 kinds
 
-unfoldable pub endRule : ℕ → ℕ
-endRule row =
-    pick (ltb row 6) (getD ends row 0) (pick (ltb row 14) 34 (pick (ltb row 28) (3 * row - 3) (pick (ltb row 29) 84 89)))
+-- ---- which of a list a number is, and that it is none of them, as a `match` says it of what is left
 
-pub form-ruled : {x : ℕ} (row : ℕ) → row < 45 → x ≡ formRule row → x ≡ formOf row
-unfolding formRule formOf kindOf kinds rows pick
-form-ruled row h e = ruled formRule formOf tt row h e
+abbrev pub next : Bool → ℕ → ℕ
+next true n = 0
+next false n = suc n
 
-pub form-past : (row : ℕ) → 45 ≤ row → formOf row ≡ 0
-unfolding formOf kinds
-form-past row h = ap (λ (k : ℕ). getD kinds k none .form) (kind-past row h)
+abbrev pub indexIn : ℕ → List ℕ → ℕ
+indexIn n [] = 0
+indexIn n (k ∷ ks) = next (eqb n k) (indexIn n ks)
 
-pub form-plain : (row : ℕ) → 0 ≡ formRule row → 0 ≡ formOf row
-form-plain row e =
-    split (ltb row 45) (λ t. form-ruled row (ltb-true row 45 t) e) (λ t. sym (form-past row (ltb-false row 45 t)))
+abbrev pub Left : Type 0 → ℕ → List ℕ → Type 0
+Left X n [] = X
+Left X n (k ∷ ks) = Left (X × (n ≡ k → ⊥)) n ks
 
-pub start-ruled : {x : ℕ} (row : ℕ) → row < 45 → x ≡ startRule row → x ≡ keyStart row
-unfolding startRule starts startOf kindOf kinds rows bytes pick
-start-ruled row h e = ruled startRule keyStart tt row h e
+left-first : (X : Type 0) (n : ℕ) (ks : List ℕ) → Left X n ks → X
+left-first X n [] x = x
+left-first X n (k ∷ ks) x = left-first (X × (n ≡ k → ⊥)) n ks x .0
 
-pub end-ruled : {x : ℕ} (row : ℕ) → row < 45 → x ≡ endRule row → x ≡ keyEnd row
-unfolding endRule ends startOf kindOf kinds rows bytes pick
-end-ruled row h e = ruled endRule keyEnd tt row h e
+pub left-out : (X : Type 0) (n : ℕ) (ks : List ℕ) → Left X n ks → indexIn n ks ≡ length ks
+left-out X n [] x = refl
+left-out X n (k ∷ ks) x =
+    split (eqb n k)
+    (λ t. absurd (left-first (X × (n ≡ k → ⊥)) n ks x .1 (eqb-true n k t)))
+    (λ t. rw t (ap suc (left-out (X × (n ≡ k → ⊥)) n ks x)))
 
-pub start-past : (row : ℕ) → 45 ≤ row → keyStart row ≡ 89
-unfolding startOf kinds bytes
-start-past row h = ap startOf (kind-past row h)
+-- ---- the row of a key
 
-pub kind-any : (row : ℕ) → kindOf row < 24
+head-tells : (row : ℕ) → kindOf row ≡ indexIn (headOf row) heads
+unfolding kindOf
+head-tells row =
+    split (ltb row rowCount)
+    (λ t. ruled kindOf (λ (r : ℕ). indexIn (headOf r) heads) tt row (ltb-true row rowCount t) refl)
+    (λ t. kind-past row (ltb-false row rowCount t) ∙ ap (λ (k : ℕ). indexIn (numbersIn (take k kinds)) heads) (sym (kind-past row (ltb-false row rowCount t))))
+
+abbrev pub kindFacts : Kind → Key
+kindFacts k =
+    record {
+      0 = letters (k .key);
+      1 = length (k .key);
+      2 = k .form;
+      3 = getD (k .ranges) 0 (0 to 0) .least;
+      4 = getD (k .ranges) 0 (0 to 0) .most;
+    }
+
+pub facts-at : (row at n : ℕ) {x : Key} → at ≡ headOf row → at ≡ n → x ≡ kindFacts (getD kinds (indexIn n heads) none) → x ≡ factsOf row
+unfolding factsOf keyOf formOf rangesOf
+facts-at row at n h e f =
+    f ∙ ap (λ (k : ℕ). kindFacts (getD kinds k none)) (ap (λ (m : ℕ). indexIn m heads) (sym e ∙ h) ∙ sym (head-tells row))
+
+pub facts-past : (row at : ℕ) {x : Key} → at ≡ headOf row → Left (Unit {0}) at heads → x ≡ kindFacts none → x ≡ factsOf row
+unfolding factsOf keyOf formOf rangesOf
+facts-past row at h l f =
+    f ∙ ap (λ (k : ℕ). kindFacts (getD kinds k none)) (sym (left-out (Unit {0}) at heads l) ∙ ap (λ (m : ℕ). indexIn m heads) h ∙ sym (head-tells row))
+
+-- ---- the letters of a key, without the blanks
+
+part : (xs ys : List ℕ) (n : ℕ) → length xs ≤ n → take (length xs) (take n (xs ++ ys)) ≡ xs
+part [] ys n h = refl
+part (x ∷ xs) ys zero h = absurd (omega arith)
+part (x ∷ xs) ys (suc n) h = ap (λ (l : List ℕ). x ∷ l) (part xs ys n (omega arith))
+
+kind-any : (row : ℕ) → kindOf row < kindCount + 1
 kind-any row =
-    split (ltb row 45) (λ t. omega (arith, kind-few row (ltb-true row 45 t))) (λ t. omega (arith, kind-past row (ltb-false row 45 t)))
+    split (ltb row rowCount) (λ t. omega (arith, kind-few row (ltb-true row rowCount t))) (λ t. omega (arith, kind-past row (ltb-false row rowCount t)))
 
--- two lists of bytes are the same
-abbrev same : List ℕ → List ℕ → Bool
-same [] [] = true
-same [] (y ∷ ys) = false
-same (x ∷ xs) [] = false
-same (x ∷ xs) (y ∷ ys) = also (eqb x y) (same xs ys)
+pub key-short : (row : ℕ) → length (keyOf row) ≤ 8
+unfolding keyOf
+key-short row = leb→le (length (keyOf row)) 8 (at (λ (k : ℕ). leb (length (getD kinds k none .key)) 8) (kindCount + 1) tt (kindOf row) (kind-any row))
 
-same-eq : (xs ys : List ℕ) → T (same xs ys) → xs ≡ ys
-same-eq [] [] t = refl
-same-eq [] (y ∷ ys) t = absurd t
-same-eq (x ∷ xs) [] t = absurd t
-same-eq (x ∷ xs) (y ∷ ys) t =
-    let e = eqb→eq x y (also-left (eqb x y) (same xs ys) t) in
-    let es = same-eq xs ys (also-right (eqb x y) (same xs ys) t) in
-    λ i. e i ∷ es i
+pub key-part : (row : ℕ) → take (length (keyOf row)) (letters (keyOf row)) ≡ keyOf row
+key-part row = part (keyOf row) (replicate 8 32) 8 (key-short row)
 
-pub end-past : (row : ℕ) → 45 ≤ row → keyEnd row ≡ 89
-unfolding startOf kinds bytes
-end-past row h = ap (λ (k : ℕ). startOf (k + 1)) (kind-past row h)
+-- ---- what a caller takes from the row of a key
 
-pub end-last : (row : ℕ) → 89 ≡ endRule row → 89 ≡ keyEnd row
-end-last row e =
-    split (ltb row 45) (λ t. end-ruled row (ltb-true row 45 t) e) (λ t. sym (end-past row (ltb-false row 45 t)))
+module _ (row : ℕ) (k : Key) (e : k ≡ factsOf row) where
+  pub facts-key : take (k .1) (k .0) ≡ keyOf row
+  unfolding factsOf
+  facts-key = ap (λ (x : Key). take (x .1) (x .0)) e ∙ key-part row
 
--- the part of all keys that is the key of a kind; past the last kind it is empty
-pub start-end : (row : ℕ) → keyStart row ≤ keyEnd row
-unfolding startOf
-start-end row =
-    let e : kindOf row + 1 ≡ suc (kindOf row) = omega arith in
-    rw e (omega arith)
+  pub facts-short : k .1 ≤ 8
+  unfolding factsOf
+  facts-short = let l : k .1 ≡ length (keyOf row) = ap (λ (x : Key). x .1) e in omega (arith, key-short row)
 
-pub end-all : (row : ℕ) → keyEnd row ≤ 89
-unfolding startOf kinds bytes
-end-all row = leb→le (keyEnd row) 89 (at (λ (k : ℕ). leb (startOf (k + 1)) 89) 24 tt (kindOf row) (kind-any row))
-
-pub key-part : (row : ℕ) → take (keyEnd row - keyStart row) (drop (keyStart row) keyBytes) ≡ keyOf row
-unfolding keyOf startOf kinds bytes keyBytes
-key-part row =
-    same-eq (take (keyEnd row - keyStart row) (drop (keyStart row) keyBytes)) (getD kinds (kindOf row) none .key)
-    (at (λ (k : ℕ). same (take (startOf (k + 1) - startOf k) (drop (startOf k) keyBytes)) (getD kinds k none .key)) 24 tt (kindOf row) (kind-any row))
+  pub facts-form : k .2 ≡ formOf row
+  unfolding factsOf
+  facts-form = ap (λ (x : Key). x .2) e

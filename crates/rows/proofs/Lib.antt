@@ -1,9 +1,4 @@
 pub mod Tables
 pub mod Keys
 pub mod Ranges
-pub mod Grades
-pub mod Numbers
-pub mod Entries
-pub mod Stored
-pub mod Again
 pub mod Fixed

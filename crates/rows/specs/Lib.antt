@@ -1,3 +1,4 @@
 pub mod Table
-pub mod Flat
+pub mod Facts
 pub mod Marks
+pub mod Longest

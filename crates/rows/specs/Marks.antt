@@ -6,7 +6,7 @@ use lib.ListN.{getD}
 use Rattle.units.specs.Numbers.{pick}
 use Rattle.rows.specs.Table.{bytes}
 
--- before number j of a line: "key=value", and commas between the numbers
+-- before number j of a line: the sign between key and value, and commas between the numbers
 unfoldable pub markOf : ℕ → List ℕ
 markOf j = pick (ltb j 1) (bytes "=") (bytes ",")
 

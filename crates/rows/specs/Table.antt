@@ -1,15 +1,15 @@
 -- "The site sheet": the table of lines, in the paper's order, and the rows that a sheet's text is made of.
-use Prim.Native.Nat.{ℕ, zero, suc, _+_, _-_}
+use Prim.Native.Nat.{ℕ, zero, suc, _+_, _-_, _*_}
 use Prim.Native.String as S
 use Prim.Native.Char.{code}
-use mathlib.Core.Bool.{Bool, true, false}
+use mathlib.Core.Bool.{Bool, true, false, _&&_}
 use mathlib.Core.List.{List, [], _∷_, _++_}
-use lib.Dec.{leb, ltb}
+use lib.Dec.{leb, ltb, eqb}
 use lib.ListN.{length, getD, replicate}
 use Rattle.units.specs.Numbers.{pick}
 
 -- a text's bytes
-unfoldable pub bytes : S.String → List ℕ
+abbrev pub bytes : S.String → List ℕ
 bytes S.[] = []
 bytes (S._∷_ c s) = code c ∷ bytes s
 
@@ -31,26 +31,37 @@ worded = 1
 abbrev pub signed : ℕ
 signed = 2
 
--- a kind of line: its key, how its numbers are written, and the range of each
+-- a kind of line: its key, how its numbers are written, the range of each, and how many lines of it a sheet can have
 pub record Kind : Type 0 where
   pub key : List ℕ
   pub form : ℕ
   pub ranges : List Range
+  pub lines : ℕ
 
 abbrev pub kind : ℕ → S.String → List Range → Kind
-kind form key ranges = record { key = bytes key; form = form; ranges = ranges }
+kind form key ranges = record { key = bytes key; form = form; ranges = ranges; lines = 1 }
+
+-- "then that many `phase=` lines", "then that many `point=FEET,TENTHS` lines"
+abbrev pub upTo : ℕ → S.String → List Range → Kind
+upTo most key ranges = record { key = bytes key; form = plain; ranges = ranges; lines = most }
+
+abbrev pub mostPhases : ℕ
+mostPhases = 8
+
+abbrev pub mostPoints : ℕ
+mostPoints = 16
 
 -- A vehicle is kept as its place in "car, su, bus, wb50", and a grade as 1,000,000 more than it is ("-80 to 80"), so that every kind has plain ranges.
-unfoldable pub kinds : List Kind
+abbrev pub kinds : List Kind
 kinds =
     kind plain "issue" ((1 to 65535) ∷ [])
     ∷ kind worded "vehicle" ((0 to 3) ∷ [])
     ∷ kind signed "grade" ((999920 to 1000080) ∷ [])
     ∷ kind plain "l01" ((0 to 999) ∷ [])
     ∷ kind plain "l02" ((1 to 999) ∷ [])
-    ∷ kind plain "phases" ((1 to 8) ∷ [])
+    ∷ kind plain "phases" ((1 to mostPhases) ∷ [])
     -- number, green, other, yellow, red, walk, clearance, mode: "Yellows are 30 to 60, reds 0 to 60, other phase times 0 to 999"
-    ∷ kind plain "phase" ((1 to 8) ∷ (0 to 999) ∷ (0 to 999) ∷ (30 to 60) ∷ (0 to 60) ∷ (0 to 999) ∷ (0 to 999) ∷ (0 to 2) ∷ [])
+    ∷ upTo mostPhases "phase" ((1 to 8) ∷ (0 to 999) ∷ (0 to 999) ∷ (30 to 60) ∷ (0 to 60) ∷ (0 to 999) ∷ (0 to 999) ∷ (0 to 2) ∷ [])
     -- yellow, red
     ∷ kind plain "track" ((30 to 60) ∷ (0 to 60) ∷ [])
     ∷ kind plain "l18" ((0 to 400) ∷ [])
@@ -66,38 +77,81 @@ kinds =
     ∷ kind plain "l56" ((30 to 999) ∷ [])
     ∷ kind plain "l57" ((1 to 999) ∷ [])
     ∷ kind plain "l58" ((0 to 100) ∷ [])
-    ∷ kind plain "points" ((2 to 16) ∷ [])
+    ∷ kind plain "points" ((2 to mostPoints) ∷ [])
     -- feet, tenths
-    ∷ kind plain "point" ((0 to 400) ∷ (0 to 9999) ∷ [])
+    ∷ upTo mostPoints "point" ((0 to 400) ∷ (0 to 9999) ∷ [])
     ∷ []
 
+-- ---- how many kinds, rows and numbers there are, and which and where those of a key are: counted in the table
+
+-- The rows of a sheet: each kind in that order, as often as a sheet can have it. A text has the rows that its counts name.
+abbrev pub rowsFrom : ℕ → List Kind → List ℕ
+rowsFrom k [] = []
+rowsFrom k (x ∷ xs) = replicate (x .lines) k ++ rowsFrom (k + 1) xs
+
+abbrev pub rows : List ℕ
+rows = rowsFrom 0 kinds
+
+abbrev pub rowsIn : List Kind → ℕ
+rowsIn [] = 0
+rowsIn (x ∷ xs) = x .lines + rowsIn xs
+
+abbrev pub numbersIn : List Kind → ℕ
+numbersIn [] = 0
+numbersIn (x ∷ xs) = x .lines * length (x .ranges) + numbersIn xs
+
+abbrev pub kindCount : ℕ
+kindCount = length kinds
+
+abbrev pub rowCount : ℕ
+rowCount = rowsIn kinds
+
+abbrev pub numberCount : ℕ
+numberCount = numbersIn kinds
+
+abbrev pub same : List ℕ → List ℕ → Bool
+same [] [] = true
+same [] (y ∷ ys) = false
+same (x ∷ xs) [] = false
+same (x ∷ xs) (y ∷ ys) = eqb x y && same xs ys
+
+abbrev pub unlessFound : Bool → List Kind → List Kind
+unlessFound true ks = []
+unlessFound false ks = ks
+
+-- the kinds before that of a key
+abbrev pub before : List ℕ → List Kind → List Kind
+before key [] = []
+before key (x ∷ xs) = unlessFound (same (x .key) key) (x ∷ before key xs)
+
+abbrev pub kindFor : S.String → ℕ
+kindFor key = length (before (bytes key) kinds)
+
+-- the first row with the key, and the place of its first number
+abbrev pub rowFor : S.String → ℕ
+rowFor key = rowsIn (before (bytes key) kinds)
+
+abbrev pub placeFor : S.String → ℕ
+placeFor key = numbersIn (before (bytes key) kinds)
+
 abbrev pub phaseKind : ℕ
-phaseKind = 6
+phaseKind = kindFor "phase"
 
 abbrev pub pointKind : ℕ
-pointKind = 22
-
--- The rows of a sheet: each kind once in that order, but `phase` 8 times and `point` 16 times. A text has the rows that its counts name.
-unfoldable pub rows : List ℕ
-rows =
-    0 ∷ 1 ∷ 2 ∷ 3 ∷ 4 ∷ 5 ∷ replicate 8 phaseKind
-    ++ 7 ∷ 8 ∷ 9 ∷ 10 ∷ 11 ∷ 12 ∷ 13 ∷ 14 ∷ 15 ∷ 16 ∷ 17 ∷ 18 ∷ 19 ∷ 20 ∷ 21 ∷ replicate 16 pointKind
+pointKind = kindFor "point"
 
 abbrev pub firstPhase : ℕ
-firstPhase = 6
-
-abbrev pub track : ℕ
-track = 14
+firstPhase = rowFor "phase"
 
 abbrev pub firstPoint : ℕ
-firstPoint = 29
+firstPoint = rowFor "point"
 
 -- no kind and no range, for what stands past the table
 abbrev pub none : Kind
-none = record { key = []; form = plain; ranges = [] }
+none = record { key = []; form = plain; ranges = []; lines = 0 }
 
 unfoldable pub kindOf : ℕ → ℕ
-kindOf row = getD rows row 23
+kindOf row = getD rows row kindCount
 
 unfoldable pub keyOf : ℕ → List ℕ
 keyOf row = getD kinds (kindOf row) none .key
@@ -119,17 +173,6 @@ unfoldable pub placeOf : ℕ → ℕ
 placeOf zero = 0
 placeOf (suc row) = placeOf row + widthOf row
 
--- where the key of a kind starts, in all keys written after one another
-unfoldable pub startOf : ℕ → ℕ
-startOf zero = 0
-startOf (suc k) = startOf k + length (getD kinds k none .key)
-
-abbrev pub keyStart : ℕ → ℕ
-keyStart row = startOf (kindOf row)
-
-abbrev pub keyEnd : ℕ → ℕ
-keyEnd row = startOf (kindOf row + 1)
-
 unfoldable pub inRange : Range → ℕ → Bool
 inRange r x = pick (leb (r .least) x) (leb x (r .most)) false
 
@@ -138,9 +181,9 @@ unfoldable pub inRanges : List ℕ → ℕ → List Range → Bool
 inRanges v at [] = true
 inRanges v at (r ∷ rs) = pick (inRange r (getD v at 0)) (inRanges v (at + 1) rs) false
 
--- "phases, then that many `phase=` lines"; "points, then that many `point=FEET,TENTHS` lines". The two counts stand at places 5 and 85
+-- phases: "1 to 8, then that many `phase=` lines"; points: "2 to 16, then that many `point=FEET,TENTHS` lines"
 unfoldable pub present : List ℕ → ℕ → Bool
 present v row =
     pick (ltb row firstPhase) true
-    (pick (ltb row track) (ltb (row - firstPhase) (getD v 5 0))
-    (pick (ltb row firstPoint) true (ltb (row - firstPoint) (getD v 85 0))))
+    (pick (ltb row (firstPhase + mostPhases)) (ltb (row - firstPhase) (getD v (placeFor "phases") 0))
+    (pick (ltb row firstPoint) true (ltb (row - firstPoint) (getD v (placeFor "points") 0))))

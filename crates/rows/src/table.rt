@@ -1,34 +1,194 @@
-// What of the table of lines is no rule of the row's number, as constants: few and short, since each is made anew where it is looked into.
-// specs/Table.antt has the table as the paper prints it; the two are tied by computed tests.
+// The table of lines, one row for each key in the paper's order. specs/Table.antt has it as the paper prints it; the two are tied by computed tests.
+ghost use mathlib.Core.Path.{_≡_};
+ghost use Rattle.rows.specs.Facts.{headOf, factsOf};
 
-// The least and the most of the first six rows, and of the rows of one number from `l18` on.
-pub const LEAST_FIRST: [u32; 6] = [1, 0, 999920, 0, 1, 1];
+// A key: its letters with blanks after them, how many they are, how its numbers are written, and the least and the most of the first.
+pub struct Key(pub [u8; 8], pub usize, pub usize, pub u32, pub u32);
 
-pub const MOST_FIRST: [u32; 6] = [65535, 3, 1000080, 999, 999, 8];
+// How the numbers of a line are written.
+pub const PLAIN: usize = 0;
 
-pub const LEAST_SINGLE: [u8; 14] = [0, 1, 1, 0, 200, 0, 0, 100, 0, 0, 30, 1, 0, 2];
+pub const WORDED: usize = 1;
 
-pub const MOST_SINGLE: [u16; 14] = [
-    400,
-    400,
-    150,
-    999,
-    999,
-    999,
-    999,
-    999,
-    999,
-    400,
-    999,
-    999,
-    100,
-    16,
-];
+pub const SIGNED: usize = 2;
 
-// All keys after one another, and where those of the first six rows start and end.
-pub const KEYS: [u8; 89] =
-    *b"issuevehiclegradel01l02phasesphasetrackl18l19l20l28l30l31l33l37l39l47l56l57l58pointspoint";
+// How many phases and points a sheet has room for.
+pub const MOST_PHASES: usize = 8;
 
-pub const STARTS: [u8; 6] = [0, 5, 12, 17, 20, 23];
+pub const MOST_POINTS: usize = 16;
 
-pub const ENDS: [u8; 6] = [5, 12, 17, 20, 23, 29];
+// Of each key, where its first number stands among the numbers of a sheet, past those of the key before it; and the key.
+pub const ISSUE: usize = 0;
+
+const ISSUE_KEY: Key = Key(*b"issue   ", 5, PLAIN, 1, 65535);
+
+pub const VEHICLE: usize = ISSUE + 1;
+
+const VEHICLE_KEY: Key = Key(*b"vehicle ", 7, WORDED, 0, 3);
+
+pub const GRADE: usize = VEHICLE + 1;
+
+const GRADE_KEY: Key = Key(*b"grade   ", 5, SIGNED, 999920, 1000080);
+
+pub const L01: usize = GRADE + 1;
+
+const L01_KEY: Key = Key(*b"l01     ", 3, PLAIN, 0, 999);
+
+pub const L02: usize = L01 + 1;
+
+const L02_KEY: Key = Key(*b"l02     ", 3, PLAIN, 1, 999);
+
+pub const PHASES: usize = L02 + 1;
+
+const PHASES_KEY: Key = Key(*b"phases  ", 6, PLAIN, 1, 8);
+
+pub const PHASE: usize = PHASES + 1;
+
+const PHASE_KEY: Key = Key(*b"phase   ", 5, PLAIN, 1, 8);
+
+pub const TRACK: usize = PHASE + 8 * MOST_PHASES;
+
+const TRACK_KEY: Key = Key(*b"track   ", 5, PLAIN, 30, 60);
+
+pub const TRACK_RED: usize = TRACK + 1;
+
+pub const L18: usize = TRACK_RED + 1;
+
+const L18_KEY: Key = Key(*b"l18     ", 3, PLAIN, 0, 400);
+
+pub const L19: usize = L18 + 1;
+
+const L19_KEY: Key = Key(*b"l19     ", 3, PLAIN, 1, 400);
+
+pub const L20: usize = L19 + 1;
+
+const L20_KEY: Key = Key(*b"l20     ", 3, PLAIN, 1, 150);
+
+pub const L28: usize = L20 + 1;
+
+const L28_KEY: Key = Key(*b"l28     ", 3, PLAIN, 0, 999);
+
+pub const L30: usize = L28 + 1;
+
+const L30_KEY: Key = Key(*b"l30     ", 3, PLAIN, 200, 999);
+
+pub const L31: usize = L30 + 1;
+
+const L31_KEY: Key = Key(*b"l31     ", 3, PLAIN, 0, 999);
+
+pub const L33: usize = L31 + 1;
+
+const L33_KEY: Key = Key(*b"l33     ", 3, PLAIN, 0, 999);
+
+pub const L37: usize = L33 + 1;
+
+const L37_KEY: Key = Key(*b"l37     ", 3, PLAIN, 100, 999);
+
+pub const L39: usize = L37 + 1;
+
+const L39_KEY: Key = Key(*b"l39     ", 3, PLAIN, 0, 999);
+
+pub const L47: usize = L39 + 1;
+
+const L47_KEY: Key = Key(*b"l47     ", 3, PLAIN, 0, 400);
+
+pub const L56: usize = L47 + 1;
+
+const L56_KEY: Key = Key(*b"l56     ", 3, PLAIN, 30, 999);
+
+pub const L57: usize = L56 + 1;
+
+const L57_KEY: Key = Key(*b"l57     ", 3, PLAIN, 1, 999);
+
+pub const L58: usize = L57 + 1;
+
+const L58_KEY: Key = Key(*b"l58     ", 3, PLAIN, 0, 100);
+
+pub const POINTS: usize = L58 + 1;
+
+const POINTS_KEY: Key = Key(*b"points  ", 6, PLAIN, 2, 16);
+
+pub const POINT: usize = POINTS + 1;
+
+const POINT_KEY: Key = Key(*b"point   ", 5, PLAIN, 0, 400);
+
+pub const NUMBERS: usize = POINT + 2 * MOST_POINTS;
+
+const NO_KEY: Key = Key(*b"        ", 0, PLAIN, 0, 0);
+
+// The rows: as many of `phase` and of `point` as there is room for, one of each other key. Those before `phase`, and those from `l18` to `points`, have
+// one number each.
+pub const FIRST_PHASE: usize = PHASE;
+
+pub const TRACK_ROW: usize = FIRST_PHASE + MOST_PHASES;
+
+pub const SINGLE_ROW: usize = TRACK_ROW + 1;
+
+pub const SINGLE_SHIFT: usize = L18 - SINGLE_ROW;
+
+pub const FIRST_POINT: usize = POINT - SINGLE_SHIFT;
+
+pub const ROWS: usize = FIRST_POINT + MOST_POINTS;
+
+// The kinds: one for each key.
+pub const PHASE_KIND: usize = FIRST_PHASE;
+
+pub const KIND_SHIFT: usize = MOST_PHASES - 1;
+
+pub const POINT_KIND: usize = FIRST_POINT - KIND_SHIFT;
+
+pub const KINDS: usize = POINT_KIND + 1;
+
+// Where the first number of a row's key stands.
+fn head(row: usize) -> usize
+    ensures { λ r. ⌜ r ≡ headOf row ⌝ }
+{
+    if row < FIRST_PHASE {
+        return row;
+    }
+    if row < TRACK_ROW {
+        return PHASE;
+    }
+    if row < SINGLE_ROW {
+        return TRACK;
+    }
+    if row < FIRST_POINT {
+        return row + SINGLE_SHIFT;
+    }
+    if row < ROWS {
+        return POINT;
+    }
+    NUMBERS
+}
+
+// The key of a row; past the last row, none.
+pub fn facts(row: usize) -> Key
+    ensures { λ r. ⌜ r ≡ factsOf row ⌝ }
+{
+    match head(row) {
+        ISSUE => ISSUE_KEY,
+        VEHICLE => VEHICLE_KEY,
+        GRADE => GRADE_KEY,
+        L01 => L01_KEY,
+        L02 => L02_KEY,
+        PHASES => PHASES_KEY,
+        PHASE => PHASE_KEY,
+        TRACK => TRACK_KEY,
+        L18 => L18_KEY,
+        L19 => L19_KEY,
+        L20 => L20_KEY,
+        L28 => L28_KEY,
+        L30 => L30_KEY,
+        L31 => L31_KEY,
+        L33 => L33_KEY,
+        L37 => L37_KEY,
+        L39 => L39_KEY,
+        L47 => L47_KEY,
+        L56 => L56_KEY,
+        L57 => L57_KEY,
+        L58 => L58_KEY,
+        POINTS => POINTS_KEY,
+        POINT => POINT_KEY,
+        _ => NO_KEY,
+    }
+}

@@ -13,11 +13,12 @@ use Rattle.units.proofs.Steps.{split}
 use Rattle.units.proofs.Tested.{also, also-left, also-right, given, given-then, at}
 use Rattle.sheet.specs.declared.Refusal.the-variants.{OutOfRange, PointsDontRise}
 use Rattle.sheet.specs.Refusals.{orElse, unless}
-use Rattle.rows.specs.Table.{Range, kinds, rows, kindOf, formOf, rangesOf, widthOf, placeOf, inRanges, present, phaseKind, pointKind}
-use Rattle.rows.specs.Flat.{phaseAt, pointAt}
+use Rattle.rows.specs.Table.{placeFor, firstPhase, firstPoint, rowCount, Range, kinds, rows, kindOf, formOf, rangesOf, widthOf, placeOf, inRanges, present, phaseKind, pointKind}
+use Rattle.numbers.specs.Flat.{phasePlace, pointPlace, phaseAt, pointAt}
 use Rattle.accept.specs.Lines.{phaseFault, startsAtZero, pointRises, beforePhase, pointFits, ruleFault, rowFault}
 use Rattle.accept.proofs.Sound.{phase-place, point-place}
 use Rattle.writer.specs.Text.{fieldsText, rowText}
+use Rattle.rows.proofs.Tables.{pastPhases}
 
 -- the numbers v and w agree below a place, or between two
 abbrev pub Below : ℕ → List ℕ → List ℕ → Type 0
@@ -47,26 +48,26 @@ row-agree row v w a = rw (text-agree (formOf row) (placeOf row) (widthOf row) 0 
 
 -- ---- whether the text has a row
 
-pub present-agree : (row : ℕ) (v w : List ℕ) → (6 ≤ row → getD w 5 0 ≡ getD v 5 0) → (29 ≤ row → getD w 85 0 ≡ getD v 85 0) → present w row ≡ present v row
+pub present-agree : (row : ℕ) (v w : List ℕ) → (firstPhase ≤ row → getD w (placeFor "phases") 0 ≡ getD v (placeFor "phases") 0) → (firstPoint ≤ row → getD w (placeFor "points") 0 ≡ getD v (placeFor "points") 0) → present w row ≡ present v row
 unfolding present pick
 present-agree row v w a b =
-    split (ltb row 6) (λ t. rw t)
-    (λ t. split (ltb row 14)
-    (λ t₁. rw (t, t₁, a (ltb-false row 6 t)))
-    (λ t₁. split (ltb row 29) (λ t₂. rw (t, t₁, t₂)) (λ t₂. rw (t, t₁, t₂, b (ltb-false row 29 t₂)))))
+    split (ltb row firstPhase) (λ t. rw t)
+    (λ t. split (ltb row pastPhases)
+    (λ t₁. rw (t, t₁, a (ltb-false row firstPhase t)))
+    (λ t₁. split (ltb row firstPoint) (λ t₂. rw (t, t₁, t₂)) (λ t₂. rw (t, t₁, t₂, b (ltb-false row firstPoint t₂)))))
 
-pub past-phases : (row : ℕ) → row < 45 → 6 ≤ row → 5 < placeOf row
-unfolding placeOf widthOf rangesOf kindOf kinds rows
+pub past-phases : (row : ℕ) → row < rowCount → firstPhase ≤ row → placeFor "phases" < placeOf row
+unfolding placeOf widthOf rangesOf kindOf
 past-phases row h l =
-    ltb→lt 5 (placeOf row) (given-then (leb 6 row) (ltb 5 (placeOf row)) (at (λ (r : ℕ). given (leb 6 r) (ltb 5 (placeOf r))) 45 tt row h) (le→leb 6 row l))
+    ltb→lt (placeFor "phases") (placeOf row) (given-then (leb firstPhase row) (ltb (placeFor "phases") (placeOf row)) (at (λ (r : ℕ). given (leb firstPhase r) (ltb (placeFor "phases") (placeOf r))) rowCount tt row h) (le→leb firstPhase row l))
 
-pub past-points : (row : ℕ) → row < 45 → 29 ≤ row → 85 < placeOf row
-unfolding placeOf widthOf rangesOf kindOf kinds rows
+pub past-points : (row : ℕ) → row < rowCount → firstPoint ≤ row → placeFor "points" < placeOf row
+unfolding placeOf widthOf rangesOf kindOf
 past-points row h l =
-    ltb→lt 85 (placeOf row) (given-then (leb 29 row) (ltb 85 (placeOf row)) (at (λ (r : ℕ). given (leb 29 r) (ltb 85 (placeOf r))) 45 tt row h) (le→leb 29 row l))
+    ltb→lt (placeFor "points") (placeOf row) (given-then (leb firstPoint row) (ltb (placeFor "points") (placeOf row)) (at (λ (r : ℕ). given (leb firstPoint r) (ltb (placeFor "points") (placeOf r))) rowCount tt row h) (le→leb firstPoint row l))
 
-pub present-below : (row : ℕ) (v w : List ℕ) → row < 45 → Below (placeOf row) v w → present w row ≡ present v row
-present-below row v w h a = present-agree row v w (λ l. a 5 (past-phases row h l)) (λ l. a 85 (past-points row h l))
+pub present-below : (row : ℕ) (v w : List ℕ) → row < rowCount → Below (placeOf row) v w → present w row ≡ present v row
+present-below row v w h a = present-agree row v w (λ l. a (placeFor "phases") (past-phases row h l)) (λ l. a (placeFor "points") (past-points row h l))
 
 -- ---- the fault of a row
 
@@ -76,45 +77,45 @@ ranges-agree [] p v w a = refl
 ranges-agree (r ∷ rs) p v w a =
     rw (a p (omega arith) (omega arith), ranges-agree rs (p + 1) v w (λ m g l. a m (omega arith) (omega arith)))
 
-pub phase-row : (row : ℕ) → row < 45 → kindOf row ≡ 6 → (6 ≤ row) × (row < 14) × (widthOf row ≡ 8)
-unfolding widthOf rangesOf kindOf kinds rows
+pub phase-row : (row : ℕ) → row < rowCount → kindOf row ≡ phaseKind → (firstPhase ≤ row) × (row < pastPhases) × (widthOf row ≡ 8)
+unfolding widthOf rangesOf kindOf
 phase-row row h e =
-    let t = given-then (eqb (kindOf row) 6) (also (leb 6 row) (also (ltb row 14) (eqb (widthOf row) 8))) (at (λ (r : ℕ). given (eqb (kindOf r) 6) (also (leb 6 r) (also (ltb r 14) (eqb (widthOf r) 8)))) 45 tt row h) (subst T (sym (eq-eqb (kindOf row) 6 e)) tt) in
-    let u = also-right (leb 6 row) (also (ltb row 14) (eqb (widthOf row) 8)) t in
-    (leb→le 6 row (also-left (leb 6 row) (also (ltb row 14) (eqb (widthOf row) 8)) t), ltb→lt row 14 (also-left (ltb row 14) (eqb (widthOf row) 8) u), eqb→eq (widthOf row) 8 (also-right (ltb row 14) (eqb (widthOf row) 8) u))
+    let t = given-then (eqb (kindOf row) phaseKind) (also (leb firstPhase row) (also (ltb row pastPhases) (eqb (widthOf row) 8))) (at (λ (r : ℕ). given (eqb (kindOf r) phaseKind) (also (leb firstPhase r) (also (ltb r pastPhases) (eqb (widthOf r) 8)))) rowCount tt row h) (subst T (sym (eq-eqb (kindOf row) phaseKind e)) tt) in
+    let u = also-right (leb firstPhase row) (also (ltb row pastPhases) (eqb (widthOf row) 8)) t in
+    (leb→le firstPhase row (also-left (leb firstPhase row) (also (ltb row pastPhases) (eqb (widthOf row) 8)) t), ltb→lt row pastPhases (also-left (ltb row pastPhases) (eqb (widthOf row) 8) u), eqb→eq (widthOf row) 8 (also-right (ltb row pastPhases) (eqb (widthOf row) 8) u))
 
-pub point-row : (row : ℕ) → row < 45 → kindOf row ≡ 22 → (29 ≤ row) × (widthOf row ≡ 2)
-unfolding widthOf rangesOf kindOf kinds rows
+pub point-row : (row : ℕ) → row < rowCount → kindOf row ≡ pointKind → (firstPoint ≤ row) × (widthOf row ≡ 2)
+unfolding widthOf rangesOf kindOf
 point-row row h e =
-    let t = given-then (eqb (kindOf row) 22) (also (leb 29 row) (eqb (widthOf row) 2)) (at (λ (r : ℕ). given (eqb (kindOf r) 22) (also (leb 29 r) (eqb (widthOf r) 2))) 45 tt row h) (subst T (sym (eq-eqb (kindOf row) 22 e)) tt) in
-    (leb→le 29 row (also-left (leb 29 row) (eqb (widthOf row) 2) t), eqb→eq (widthOf row) 2 (also-right (leb 29 row) (eqb (widthOf row) 2) t))
+    let t = given-then (eqb (kindOf row) pointKind) (also (leb firstPoint row) (eqb (widthOf row) 2)) (at (λ (r : ℕ). given (eqb (kindOf r) pointKind) (also (leb firstPoint r) (eqb (widthOf r) 2))) rowCount tt row h) (subst T (sym (eq-eqb (kindOf row) pointKind e)) tt) in
+    (leb→le firstPoint row (also-left (leb firstPoint row) (eqb (widthOf row) 2) t), eqb→eq (widthOf row) 2 (also-right (leb firstPoint row) (eqb (widthOf row) 2) t))
 
-phase-agree : (i : ℕ) (v w : List ℕ) → Within (6 + 8 * i) (6 + 8 * i + 8) v w → phaseAt w i ≡ phaseAt v i
+phase-agree : (i : ℕ) (v w : List ℕ) → Within (phasePlace i) (phasePlace i + 8) v w → phaseAt w i ≡ phaseAt v i
 phase-agree i v w a =
     λ d. record {
-      number = a (6 + 8 * i) (omega arith) (omega arith) d;
-      green = a (6 + 8 * i + 1) (omega arith) (omega arith) d;
-      other = a (6 + 8 * i + 2) (omega arith) (omega arith) d;
-      yellow = a (6 + 8 * i + 3) (omega arith) (omega arith) d;
-      red = a (6 + 8 * i + 4) (omega arith) (omega arith) d;
-      walk = a (6 + 8 * i + 5) (omega arith) (omega arith) d;
-      clearance = a (6 + 8 * i + 6) (omega arith) (omega arith) d;
-      mode = a (6 + 8 * i + 7) (omega arith) (omega arith) d;
+      number = a (phasePlace i) (omega arith) (omega arith) d;
+      green = a (phasePlace i + 1) (omega arith) (omega arith) d;
+      other = a (phasePlace i + 2) (omega arith) (omega arith) d;
+      yellow = a (phasePlace i + 3) (omega arith) (omega arith) d;
+      red = a (phasePlace i + 4) (omega arith) (omega arith) d;
+      walk = a (phasePlace i + 5) (omega arith) (omega arith) d;
+      clearance = a (phasePlace i + 6) (omega arith) (omega arith) d;
+      mode = a (phasePlace i + 7) (omega arith) (omega arith) d;
     }
 
-point-agree : (i : ℕ) (v w : List ℕ) → Within (86 + 2 * i) (86 + 2 * i + 2) v w → pointAt w i ≡ pointAt v i
+point-agree : (i : ℕ) (v w : List ℕ) → Within (pointPlace i) (pointPlace i + 2) v w → pointAt w i ≡ pointAt v i
 point-agree i v w a =
-    λ d. record { feet = a (86 + 2 * i) (omega arith) (omega arith) d; tenths = a (86 + 2 * i + 1) (omega arith) (omega arith) d }
+    λ d. record { feet = a (pointPlace i) (omega arith) (omega arith) d; tenths = a (pointPlace i + 1) (omega arith) (omega arith) d }
 
 -- the row's phase or point and the one before it
-pub rule-agree : (row line : ℕ) (v w : List ℕ) → (kindOf row ≡ 6 → (phaseAt w (row - 6) ≡ phaseAt v (row - 6)) × (beforePhase w (row - 6) ≡ beforePhase v (row - 6)))
-    → (kindOf row ≡ 22 → pointFits w (row - 29) ≡ pointFits v (row - 29)) → ruleFault w row line ≡ ruleFault v row line
+pub rule-agree : (row line : ℕ) (v w : List ℕ) → (kindOf row ≡ phaseKind → (phaseAt w (row - firstPhase) ≡ phaseAt v (row - firstPhase)) × (beforePhase w (row - firstPhase) ≡ beforePhase v (row - firstPhase)))
+    → (kindOf row ≡ pointKind → pointFits w (row - firstPoint) ≡ pointFits v (row - firstPoint)) → ruleFault w row line ≡ ruleFault v row line
 unfolding ruleFault pick
 rule-agree row line v w a b =
     split (eqb (kindOf row) phaseKind)
-    (λ t. let e = a (eqb-true (kindOf row) 6 t) in rw t (λ d. phaseFault (e .1 d) (e .0 d) line))
+    (λ t. let e = a (eqb-true (kindOf row) phaseKind t) in rw t (λ d. phaseFault (e .1 d) (e .0 d) line))
     (λ t. split (eqb (kindOf row) pointKind)
-    (λ t₁. rw (t, t₁) (ap (λ (x : Bool). unless x PointsDontRise line) (b (eqb-true (kindOf row) 22 t₁))))
+    (λ t₁. rw (t, t₁) (ap (λ (x : Bool). unless x PointsDontRise line) (b (eqb-true (kindOf row) pointKind t₁))))
     (λ t₁. rw (t, t₁)))
 
 pub fault-agree : (row line : ℕ) (v w : List ℕ) → Row row v w → ruleFault w row line ≡ ruleFault v row line → rowFault w row line ≡ rowFault v row line
@@ -135,18 +136,18 @@ fits-agree i v w a b =
     (λ t. rw t (ap startsAtZero a))
     (λ t. let ne : (i ≡ 0 → ⊥) = eqb-false i 0 t in let e = b (omega arith) in rw t (λ d. pointRises (e d) (a d)))
 
-pub fault-below : (row line : ℕ) (v w : List ℕ) → row < 45 → Below (placeOf row + widthOf row) v w → rowFault w row line ≡ rowFault v row line
+pub fault-below : (row line : ℕ) (v w : List ℕ) → row < rowCount → Below (placeOf row + widthOf row) v w → rowFault w row line ≡ rowFault v row line
 fault-below row line v w h a =
     fault-agree row line v w (λ m g l. a m l)
     (rule-agree row line v w
     (λ e.
     let r = phase-row row h e in
-    let i = row - 6 in
-    let back : 6 + (row - 6) ≡ row = omega (arith, r .0) in
-    let p : placeOf row ≡ 6 + 8 * (row - 6) = sym (ap placeOf back) ∙ phase-place (row - 6) (omega (arith, r .0, r .1)) in
-    (phase-agree (row - 6) v w (λ m g l. a m (omega (arith, p, r .2))), before-agree (row - 6) v w (λ z. phase-agree (row - 6 - 1) v w (λ m g l. a m (omega (arith, p, r .2))))))
+    let i = row - firstPhase in
+    let back : firstPhase + (row - firstPhase) ≡ row = omega (arith, r .0) in
+    let p : placeOf row ≡ phasePlace (row - firstPhase) = sym (ap placeOf back) ∙ phase-place (row - firstPhase) (omega (arith, r .0, r .1)) in
+    (phase-agree (row - firstPhase) v w (λ m g l. a m (omega (arith, p, r .2))), before-agree (row - firstPhase) v w (λ z. phase-agree (row - firstPhase - 1) v w (λ m g l. a m (omega (arith, p, r .2))))))
     (λ e.
     let r = point-row row h e in
-    let back : 29 + (row - 29) ≡ row = omega (arith, r .0) in
-    let p : placeOf row ≡ 86 + 2 * (row - 29) = sym (ap placeOf back) ∙ point-place (row - 29) (omega (arith, r .0)) in
-    fits-agree (row - 29) v w (point-agree (row - 29) v w (λ m g l. a m (omega (arith, p, r .1)))) (λ z. point-agree (row - 29 - 1) v w (λ m g l. a m (omega (arith, p, r .1))))))
+    let back : firstPoint + (row - firstPoint) ≡ row = omega (arith, r .0) in
+    let p : placeOf row ≡ pointPlace (row - firstPoint) = sym (ap placeOf back) ∙ point-place (row - firstPoint) (omega (arith, r .0)) in
+    fits-agree (row - firstPoint) v w (point-agree (row - firstPoint) v w (λ m g l. a m (omega (arith, p, r .1)))) (λ z. point-agree (row - firstPoint - 1) v w (λ m g l. a m (omega (arith, p, r .1))))))

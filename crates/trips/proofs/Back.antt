@@ -13,7 +13,7 @@ use Rattle.units.proofs.Steps.{split, never}
 use Rattle.sheet.specs.declared.Answer.the-variants.{Fine}
 use Rattle.sheet.specs.Refusals.{isFine, orElse}
 use Rattle.sheet.proofs.Answers.{is-fine}
-use Rattle.rows.specs.Table.{formOf, keyOf, widthOf, placeOf, present}
+use Rattle.rows.specs.Table.{rowCount, numberCount, formOf, keyOf, widthOf, placeOf, present}
 use Rattle.rows.specs.Marks.{markOf, lineFeed}
 use Rattle.rows.proofs.Tables.{place-room}
 use Rattle.accept.specs.Lines.{rowFault, hereFault, lineAfter, faultFrom}
@@ -121,12 +121,12 @@ judged-back s at row line v f =
 
 -- entries of a row that the text has not are 0
 abbrev pub Clear : ℕ → List ℕ → Type 0
-Clear from v = (row : ℕ) → from ≤ row → row < 45 → present v row ≡ false → (m : ℕ) → placeOf row ≤ m → m < placeOf row + widthOf row → getD v m 0 ≡ 0
+Clear from v = (row : ℕ) → from ≤ row → row < rowCount → present v row ≡ false → (m : ℕ) → placeOf row ≤ m → m < placeOf row + widthOf row → getD v m 0 ≡ 0
 
 pub record Whole (s : List ℕ) (n row line at : ℕ) (v w : List ℕ) : Type 0 where
   pub text : drop at s ≡ textFrom w n row
   pub before : Below (placeOf row) v w
-  pub long : length w ≡ 118
+  pub long : length w ≡ numberCount
   pub checked : faultFrom w n row line ≡ Fine
   pub clear : Clear row w
 
@@ -139,7 +139,7 @@ record Here (s : List ℕ) (row number at : ℕ) (v u : List ℕ) (p : ℕ) : Ty
   text : (w : List ℕ) → Below (placeOf row + widthOf row) u w → drop at s ≡ hereText row w ++ drop p s
   clear : (w : List ℕ) → Below (placeOf row + widthOf row) u w → present w row ≡ false → (m : ℕ) → placeOf row ≤ m → m < placeOf row + widthOf row → getD w m 0 ≡ 0
 
-module _ (s : List ℕ) (row line at : ℕ) (v : List ℕ) (h : row < 45) where
+module _ (s : List ℕ) (row line at : ℕ) (v : List ℕ) (h : row < rowCount) where
   absent-here : ((m : ℕ) → placeOf row ≤ m → getD v m 0 ≡ 0) → present v row ≡ false → Here s row line at v v at
   unfolding hereFault hereText pick
   absent-here z a =
@@ -153,7 +153,7 @@ module _ (s : List ℕ) (row line at : ℕ) (v : List ℕ) (h : row < 45) where
         clear = λ w b q m g l. b m l ∙ z m g;
       }
 
-  present-here : length v ≡ 118 → present v row ≡ true → (t : Step) → Good s at row line v t → Here s row line at v (t .numbers) (t .next)
+  present-here : length v ≡ numberCount → present v row ≡ true → (t : Step) → Good s at row line v t → Here s row line at v (t .numbers) (t .next)
   unfolding hereFault hereText pick
   present-here e a t g =
       let r = line-back s at row v (t .next) (t .numbers) (omega (arith, place-room row h)) (g .line) in
@@ -169,7 +169,7 @@ module _ (s : List ℕ) (row line at : ℕ) (v : List ℕ) (h : row < 45) where
         clear = λ w b q. never (sym q ∙ same w b);
       }
 
-  here-back : length v ≡ 118 → ((m : ℕ) → placeOf row ≤ m → getD v m 0 ≡ 0) → isFine (hereAt s at row line v .answer) ≡ true
+  here-back : length v ≡ numberCount → ((m : ℕ) → placeOf row ≤ m → getD v m 0 ≡ 0) → isFine (hereAt s at row line v .answer) ≡ true
       → Here s row line at v (hereAt s at row line v .numbers) (hereAt s at row line v .next)
   unfolding hereAt pick
   here-back e z f =
@@ -187,12 +187,12 @@ unfolding endAt pick
 end-back s line at v f = split (eqb at (length s)) (λ t. (eqb-true at (length s) t, rw t)) (λ t. never (rw t at f))
 
 -- at the end, and one row more
-whole-end : (s : List ℕ) (row line at : ℕ) (v : List ℕ) → 45 ≤ row → length v ≡ 118 → drop at s ≡ [] → Whole s 0 row line at v v
+whole-end : (s : List ℕ) (row line at : ℕ) (v : List ℕ) → rowCount ≤ row → length v ≡ numberCount → drop at s ≡ [] → Whole s 0 row line at v v
 unfolding textFrom faultFrom
 whole-end s row line at v k l e =
     record { text = e; before = λ m i. refl; long = l; checked = refl; clear = λ r g i. absurd (omega arith) }
 
-whole-next : (s : List ℕ) (n row line at : ℕ) (v u w : List ℕ) (p : ℕ) → row < 45 → Here s row line at v u p → Whole s n (row + 1) (lineAfter v row line) p u w → Whole s (suc n) row line at v w
+whole-next : (s : List ℕ) (n row line at : ℕ) (v u w : List ℕ) (p : ℕ) → row < rowCount → Here s row line at v u p → Whole s n (row + 1) (lineAfter v row line) p u w → Whole s (suc n) row line at v w
 unfolding faultFrom textFrom lineAfter orElse
 whole-next s n row line at v u w p h r o =
     let b : Below (placeOf row + widthOf row) u w = λ m l. o .before m (omega (arith, place-next row)) in
@@ -208,7 +208,7 @@ whole-next s n row line at v u w p h r o =
           (λ q. let ne : (row ≡ k → ⊥) = eqb-false row k q in o .clear k (omega arith) l a m i j);
     }
 
-pub lines-back : (s : List ℕ) (n row line at : ℕ) (v : List ℕ) → n + row ≡ 45 → length v ≡ 118 → ((m : ℕ) → placeOf row ≤ m → getD v m 0 ≡ 0)
+pub lines-back : (s : List ℕ) (n row line at : ℕ) (v : List ℕ) → n + row ≡ rowCount → length v ≡ numberCount → ((m : ℕ) → placeOf row ≤ m → getD v m 0 ≡ 0)
     → isFine (linesFrom s n row line at v .answer) ≡ true → Whole s n row line at v (linesFrom s n row line at v .numbers)
 unfolding linesFrom
 lines-back s zero row line at v k l z f =
@@ -229,5 +229,5 @@ zeros-in a b =
     (λ t. let h : length {A = ℕ} (replicate a 0) ≤ b = rw (length-replicate) (ltb-false b a t) in List·getD-eq-default (replicate a 0) 0 h)
 
 -- a text whose lines are fine is the text of the numbers that were read
-pub text-back : (s : List ℕ) → linesOf s .answer ≡ Fine → Whole s 45 0 1 0 (replicate 118 0) (linesOf s .numbers)
-text-back s e = lines-back s 45 0 1 0 (replicate 118 0) refl refl (λ m g. zeros-in 118 m) (ap isFine e)
+pub text-back : (s : List ℕ) → linesOf s .answer ≡ Fine → Whole s rowCount 0 1 0 (replicate numberCount 0) (linesOf s .numbers)
+text-back s e = lines-back s rowCount 0 1 0 (replicate numberCount 0) refl refl (λ m g. zeros-in numberCount m) (ap isFine e)

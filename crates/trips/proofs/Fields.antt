@@ -96,7 +96,7 @@ abbrev pub Sayable : ℕ → ℕ → Type 0
 Sayable form x = Between (domain form .least) x (domain form .most)
 
 word-read : (s : List ℕ) (at x : ℕ) (l : List ℕ) → x ≤ 3 → drop at s ≡ wordOf x ++ l → wordAt s at ≡ Is x (at + length (wordOf x))
-unfolding wordAt words bytes after pick
+unfolding wordAt words after pick
 word-read s at zero l h e = rw e (ap (Is 0) (omega arith))
 word-read s at (suc zero) l h e = rw e (ap (Is 1) (omega arith))
 word-read s at (suc (suc zero)) l h e = rw e (ap (Is 2) (omega arith))
@@ -104,7 +104,7 @@ word-read s at (suc (suc (suc zero))) l h e = rw e (ap (Is 3) (omega arith))
 word-read s at (suc (suc (suc (suc n)))) l h e = absurd (omega arith)
 
 minus-bad : (s : List ℕ) (at : ℕ) (l : List ℕ) → drop at s ≡ minus ++ l → numberAt s at ≡ Bad
-unfolding number digitOf pick bytes
+unfolding number digitOf pick
 minus-bad s at l e = rw e
 
 no-minus : (s : List ℕ) (at n q : ℕ) → numberAt s at ≡ Is n q → afterAt s at minus ≡ Nowhere
@@ -112,12 +112,11 @@ no-minus s at n q e =
     byPlace (afterAt s at minus) (λ a. a) (λ p a. bad-is (sym (minus-bad s at (drop p s) (after-back s at p minus a .here)) ∙ e))
 
 minus-long : length minus ≡ 1
-unfolding bytes
 minus-long = refl
 
 signed-read : (s : List ℕ) (at x c : ℕ) (l : List ℕ) → 1 ≤ x → x ≤ 1999999 → 9 < digitOf c → drop at s ≡ signedText x ++ c ∷ l
     → signedAt s at ≡ Is x (at + length (signedText x))
-unfolding signedAt signedText pick bytes
+unfolding signedAt signedText pick
 signed-read s at x c l h₁ h₂ h e =
     split (ltb x 1000000)
     (λ t.

@@ -14,7 +14,7 @@ use Rattle.units.proofs.Steps.{split}
 use Rattle.units.proofs.Tested.{also, also-left, also-right}
 use Rattle.sheet.specs.declared.Answer.the-variants.{Fine}
 use Rattle.sheet.proofs.Answers.{both-fine, passes}
-use Rattle.rows.specs.Table.{bytes, Range, kinds, none, formOf, keyOf, kindOf, rangesOf, widthOf, placeOf, present}
+use Rattle.rows.specs.Table.{rowCount, numberCount, kindCount, bytes, Range, kinds, none, formOf, keyOf, kindOf, rangesOf, widthOf, placeOf, present}
 use Rattle.rows.specs.Marks.{markOf, lineFeed}
 use Rattle.rows.proofs.Tables.{place-room, place-past, kind-few, for-each, kindRanges, rangeAt}
 use Rattle.accept.specs.Lines.{rowFault, hereFault, lineAfter, faultFrom}
@@ -35,35 +35,35 @@ use Rattle.trips.proofs.Back.{Clear, zeros-in}
 -- ---- the first m numbers, and zeros behind them
 
 unfoldable part : List ℕ → ℕ → List ℕ
-part v m = take m v ++ replicate (118 - m) 0
+part v m = take m v ++ replicate (numberCount - m) 0
 
 part-at : (v : List ℕ) (m j : ℕ) → m ≤ length v → j < m → getD (part v m) j 0 ≡ getD v j 0
 unfolding part
-part-at v m j h l = List·getD-append (take m v) (replicate (118 - m) 0) 0 j (rw (length-take-le m v h) l) ∙ getD-take m v j 0 l
+part-at v m j h l = List·getD-append (take m v) (replicate (numberCount - m) 0) 0 j (rw (length-take-le m v h) l) ∙ getD-take m v j 0 l
 
-part-long : (v : List ℕ) (m : ℕ) → length v ≡ 118 → m ≤ 118 → length (part v m) ≡ 118
+part-long : (v : List ℕ) (m : ℕ) → length v ≡ numberCount → m ≤ numberCount → length (part v m) ≡ numberCount
 unfolding part
 part-long v m h l =
     let hm : m ≤ length v = omega arith in
-    length-append (take m v) (replicate (118 - m) 0) ∙ rw (length-take-le m v hm, length-replicate) (omega arith)
+    length-append (take m v) (replicate (numberCount - m) 0) ∙ rw (length-take-le m v hm, length-replicate) (omega arith)
 
 part-behind : (v : List ℕ) (m j : ℕ) → m ≤ length v → m ≤ j → getD (part v m) j 0 ≡ 0
 unfolding part
 part-behind v m j h l =
     let e : j ≡ length (take m v) + (j - m) = rw (length-take-le m v h) (omega arith) in
-    ap (λ (k : ℕ). getD (take m v ++ replicate (118 - m) 0) k 0) e ∙ getD-append-add (take m v) (replicate (118 - m) 0) (j - m) 0 ∙ zeros-in (118 - m) (j - m)
+    ap (λ (k : ℕ). getD (take m v ++ replicate (numberCount - m) 0) k 0) e ∙ getD-append-add (take m v) (replicate (numberCount - m) 0) (j - m) 0 ∙ zeros-in (numberCount - m) (j - m)
 
-part-set : (v : List ℕ) (m : ℕ) → length v ≡ 118 → m < 118 → set (part v m) m (getD v m 0) ≡ part v (m + 1)
+part-set : (v : List ℕ) (m : ℕ) → length v ≡ numberCount → m < numberCount → set (part v m) m (getD v m 0) ≡ part v (m + 1)
 unfolding part
 part-set v m h l =
-    let e : 118 - m ≡ suc (118 - (m + 1)) = omega arith in
+    let e : numberCount - m ≡ suc (numberCount - (m + 1)) = omega arith in
     let hm : m ≤ length v = omega arith in
     let hl : m < length v = omega arith in
-    rw e (set-at (take m v) 0 (replicate (118 - (m + 1)) 0) (getD v m 0) m (length-take-le m v hm)
-    ∙ rw (add-one m, take-suc v m 0 hl) (sym (append-assoc (take m v) (getD v m 0 ∷ []) (replicate (118 - suc m) 0))))
+    rw e (set-at (take m v) 0 (replicate (numberCount - (m + 1)) 0) (getD v m 0) m (length-take-le m v hm)
+    ∙ rw (add-one m, take-suc v m 0 hl) (sym (append-assoc (take m v) (getD v m 0 ∷ []) (replicate (numberCount - suc m) 0))))
 
 -- numbers that are 0 between two places
-part-over : (v : List ℕ) (m n : ℕ) → length v ≡ 118 → m ≤ n → n ≤ 118 → ((j : ℕ) → m ≤ j → j < n → getD v j 0 ≡ 0) → part v m ≡ part v n
+part-over : (v : List ℕ) (m n : ℕ) → length v ≡ numberCount → m ≤ n → n ≤ numberCount → ((j : ℕ) → m ≤ j → j < n → getD v j 0 ≡ 0) → part v m ≡ part v n
 part-over v m n h l k z =
     ext-getD 0 (part v m) (part v n) (part-long v m h (omega arith) ∙ sym (part-long v n h k))
     (λ j g. split (ltb j m)
@@ -72,21 +72,21 @@ part-over v m n h l k z =
     (λ t₁. let a = ltb-false j m t in part-behind v m j (omega arith) a ∙ sym (part-at v n j (omega arith) (ltb-true j n t₁) ∙ z j a (ltb-true j n t₁)))
     (λ t₁. part-behind v m j (omega arith) (ltb-false j m t) ∙ sym (part-behind v n j (omega arith) (ltb-false j n t₁)))))
 
-part-all : (v : List ℕ) → length v ≡ 118 → part v 118 ≡ v
+part-all : (v : List ℕ) → length v ≡ numberCount → part v numberCount ≡ v
 unfolding part
-part-all v h = append-nil (take 118 v) ∙ take-all 118 v (omega arith)
+part-all v h = append-nil (take numberCount v) ∙ take-all numberCount v (omega arith)
 
 -- ---- the numbers of a line
 
 -- after a number stands no digit
 after-field : (form place n j : ℕ) (v : List ℕ) (c : ℕ) (l : List ℕ) → 9 < digitOf c
     → (b : ℕ) × (r : List ℕ) × (9 < digitOf b) × (fieldsText form place n (j + 1) v ++ c ∷ l ≡ b ∷ r)
-unfolding fieldsText digitOf markOf pick bytes
+unfolding fieldsText digitOf markOf pick
 after-field form place zero j v c l h = (c, l, h, refl)
 after-field form place (suc n) j v c l h =
     (44, (fieldText form (getD v (place + (j + 1)) 0) ++ fieldsText form place n (j + 1 + 1) v) ++ c ∷ l, omega arith, rw (le-ltb (j + 1) 1 (omega arith)))
 
-fields-read : (s : List ℕ) (form place n j p : ℕ) (v : List ℕ) (c : ℕ) (l : List ℕ) → length v ≡ 118 → place + j + n ≤ 118
+fields-read : (s : List ℕ) (form place n j p : ℕ) (v : List ℕ) (c : ℕ) (l : List ℕ) → length v ≡ numberCount → place + j + n ≤ numberCount
     → ((m : ℕ) → place + j ≤ m → m < place + j + n → Sayable form (getD v m 0)) → 9 < digitOf c → drop p s ≡ fieldsText form place n j v ++ c ∷ l
     → fields s form place n j p (part v (place + j)) ≡ good (p + length (fieldsText form place n j v)) (part v (place + j + n))
 unfolding fields fieldsText
@@ -112,7 +112,7 @@ fields-read s form place (suc n) j p v c l hv h d hc e =
     let q₃ : p₂ + length r ≡ p + length (markOf j ++ (t ++ r)) = rw (length-append (markOf j) (t ++ r), length-append t r) (omega arith) in
     rw (a, b, part-set v (place + j) hv (omega arith), ← q₁) (ih ∙ rw (q₂, q₃))
 
-line-read : (s : List ℕ) (at row : ℕ) (v l : List ℕ) → length v ≡ 118 → row < 45
+line-read : (s : List ℕ) (at row : ℕ) (v l : List ℕ) → length v ≡ numberCount → row < rowCount
     → ((m : ℕ) → placeOf row ≤ m → m < placeOf row + widthOf row → Sayable (formOf row) (getD v m 0)) → drop at s ≡ rowText row v ++ l
     → lineAt s at row (part v (placeOf row)) ≡ good (at + length (rowText row v)) (part v (placeOf row + widthOf row))
 unfolding lineAt rowText digitOf pick
@@ -135,15 +135,15 @@ line-read s at row v l hv hr d e =
 abbrev formAt : ℕ → Range
 formAt k = domain (getD kinds k none .form)
 
-said : (k j : ℕ) → k < 23 → j < length (kindRanges k) → (formAt k .least ≤ rangeAt k j .least) × (rangeAt k j .most ≤ formAt k .most)
-unfolding kinds domain pick
+said : (k j : ℕ) → k < kindCount → j < length (kindRanges k) → (formAt k .least ≤ rangeAt k j .least) × (rangeAt k j .most ≤ formAt k .most)
+unfolding domain pick
 said k j hk hj =
     let t = for-each (λ (n i : ℕ). also (leb (formAt n .least) (rangeAt n i .least)) (leb (rangeAt n i .most) (formAt n .most))) tt k j hk hj in (
       leb→le (formAt k .least) (rangeAt k j .least) (also-left (leb (formAt k .least) (rangeAt k j .least)) (leb (rangeAt k j .most) (formAt k .most)) t),
       leb→le (rangeAt k j .most) (formAt k .most) (also-right (leb (formAt k .least) (rangeAt k j .least)) (leb (rangeAt k j .most) (formAt k .most)) t),
     )
 
-sayable : (row : ℕ) (v : List ℕ) (line : ℕ) → row < 45 → rowFault v row line ≡ Fine → (m : ℕ) → placeOf row ≤ m → m < placeOf row + widthOf row → Sayable (formOf row) (getD v m 0)
+sayable : (row : ℕ) (v : List ℕ) (line : ℕ) → row < rowCount → rowFault v row line ≡ Fine → (m : ℕ) → placeOf row ≤ m → m < placeOf row + widthOf row → Sayable (formOf row) (getD v m 0)
 unfolding rowFault formOf widthOf rangesOf
 sayable row v line h f m g l =
     let k = kindOf row in
@@ -155,9 +155,9 @@ sayable row v line h f m g l =
 
 -- ---- all lines
 
-place-all : (row : ℕ) → row ≤ 45 → placeOf row ≤ 118
+place-all : (row : ℕ) → row ≤ rowCount → placeOf row ≤ numberCount
 place-all row h =
-    split (ltb row 45) (λ t. omega (arith, place-room row (ltb-true row 45 t))) (λ t. omega (arith, place-past row (ltb-false row 45 t)))
+    split (ltb row rowCount) (λ t. omega (arith, place-room row (ltb-true row rowCount t))) (λ t. omega (arith, place-past row (ltb-false row rowCount t)))
 
 end-read : (s : List ℕ) (line at : ℕ) (v : List ℕ) → at ≤ length s → drop at s ≡ [] → endAt s line at v ≡ step Fine (length s) v
 unfolding endAt pick
@@ -167,7 +167,7 @@ end-read s line at v h e =
     rw (eq-eqb at (length s) q) (ap (λ (p : ℕ). step Fine p v) q)
 
 -- a row passed over or read
-module _ (s : List ℕ) (row line at : ℕ) (v l : List ℕ) (hv : length v ≡ 118) (h : row < 45) (e : drop at s ≡ hereText row v ++ l) where
+module _ (s : List ℕ) (row line at : ℕ) (v l : List ℕ) (hv : length v ≡ numberCount) (h : row < rowCount) (e : drop at s ≡ hereText row v ++ l) where
   same : present (part v (placeOf row)) row ≡ present v row
   same = present-below row v (part v (placeOf row)) h (λ m g. part-at v (placeOf row) m (omega (arith, place-room row h)) g)
 
@@ -192,14 +192,14 @@ module _ (s : List ℕ) (row line at : ℕ) (v l : List ℕ) (hv : length v ≡ 
   unfolding hereFault pick
   read-here c f = split (present v row) (λ a. read-present a (rw a at f)) (λ a. read-absent a c)
 
-lines-read : (s : List ℕ) (n row line at : ℕ) (v : List ℕ) → n + row ≡ 45 → length v ≡ 118 → Clear 0 v → faultFrom v n row line ≡ Fine → at ≤ length s
+lines-read : (s : List ℕ) (n row line at : ℕ) (v : List ℕ) → n + row ≡ rowCount → length v ≡ numberCount → Clear 0 v → faultFrom v n row line ≡ Fine → at ≤ length s
     → drop at s ≡ textFrom v n row → linesFrom s n row line at (part v (placeOf row)) ≡ step Fine (length s) v
 unfolding linesFrom faultFrom textFrom lineAfter pick
 lines-read s zero row line at v n hv c f h e =
-    let q : placeOf row ≡ 118 = place-past row (omega arith) in
+    let q : placeOf row ≡ numberCount = place-past row (omega arith) in
     rw (q, part-all v hv) (end-read s line at v h e)
 lines-read s (suc k) row line at v n hv c f h e =
-    let hr : row < 45 = omega arith in
+    let hr : row < rowCount = omega arith in
     let t = hereText row v in
     let both = both-fine _ _ f in
     let r = read-here s row line at v (textFrom v k (row + 1)) hv hr e c (both .0) in
@@ -208,6 +208,6 @@ lines-read s (suc k) row line at v n hv c f h e =
     rw (r, same s row line at v (textFrom v k (row + 1)) hv hr e) ih
 
 -- the text of numbers without a fault, 0 in the rows that they have not, is read as those numbers
-pub text-read : (v : List ℕ) → length v ≡ 118 → Clear 0 v → faultFrom v 45 0 1 ≡ Fine → linesOf (textFrom v 45 0) ≡ step Fine (length (textFrom v 45 0)) v
+pub text-read : (v : List ℕ) → length v ≡ numberCount → Clear 0 v → faultFrom v rowCount 0 1 ≡ Fine → linesOf (textFrom v rowCount 0) ≡ step Fine (length (textFrom v rowCount 0)) v
 unfolding part placeOf
-text-read v hv c f = lines-read (textFrom v 45 0) 45 0 1 0 v refl hv c f (omega arith) refl
+text-read v hv c f = lines-read (textFrom v rowCount 0) rowCount 0 1 0 v refl hv c f (omega arith) refl

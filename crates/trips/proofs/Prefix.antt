@@ -11,9 +11,9 @@ use borrow.Author.Tests.{ltb-false, ne-eqb}
 use Rattle.units.specs.Numbers.{pick}
 use Rattle.units.proofs.Steps.{split, never}
 use Rattle.sheet.specs.Refusals.{isFine, orElse}
-use Rattle.rows.specs.Table.{bytes, worded, signed, keyOf, formOf, placeOf, widthOf, present}
+use Rattle.rows.specs.Table.{rowCount, numberCount, bytes, worded, signed, keyOf, formOf, placeOf, widthOf, present}
 use Rattle.rows.specs.Marks.{markOf, minus, lineFeed, wordOf}
-use Rattle.rows.specs.Flat.{sheetOf}
+use Rattle.numbers.specs.Flat.{sheetOf}
 use Rattle.accept.specs.Lines.{lineAfter}
 use Rattle.accept.specs.Whole.{wholeFault}
 use Rattle.reader.specs.Line.{Taken}
@@ -21,8 +21,8 @@ use Rattle.reader.specs.Read.{Step}
 use Rattle.reader.specs.Figures.{digitOf, more, number, after, numberAt, afterAt}
 use Rattle.reader.specs.Line.{wordAt, signedAt, fieldAt, good, fields, ended, lineAt}
 use Rattle.reader.specs.Read.{judgedAt, endAt, onStep, hereAt, linesFrom, reply, readOf}
-use Rattle.writer.specs.Text.{longestField, longestFields, longestRow, longestFrom}
-use Rattle.writer.proofs.Lengths.{short-word, short-field, mark-long, longest-is}
+use Rattle.rows.specs.Longest.{longestField, longestFields, longestRow, longestFrom, longest}
+use Rattle.writer.proofs.Lengths.{short-word, short-field, mark-long}
 use Rattle.trips.specs.Promises.{CutIsSame}
 use Rattle.trips.proofs.Figures.{after-back}
 use Rattle.trips.proofs.Fields.{byPlace, byFigure, field-back}
@@ -90,7 +90,7 @@ module _ (s : List ℕ) (n : ℕ) where
       rw (word-at at (wordOf 0) (omega (arith, short-word 0)), word-at at (wordOf 1) (omega (arith, short-word 1)), word-at at (wordOf 2) (omega (arith, short-word 2)), word-at at (wordOf 3) (omega (arith, short-word 3)))
 
   signed-at : (at : ℕ) → at + 8 ≤ n → signedAt c at ≡ signedAt s at
-  unfolding signedAt bytes
+  unfolding signedAt
   signed-at at h =
       byPlace (afterAt s at minus)
       (λ a. rw (word-at at minus (omega arith), a, number-at at (omega arith)))
@@ -204,5 +204,5 @@ module _ (s : List ℕ) (n : ℕ) where
 pub cut-is-same : CutIsSame
 unfolding readOf
 cut-is-same t h =
-    let e = lines-at t 1070 45 0 1 0 (replicate 118 0) (omega (arith, longest-is)) (omega arith) in
+    let e = lines-at t (longest + 1) rowCount 0 1 0 (replicate numberCount 0) (omega arith) (omega arith) in
     ap (λ (x : Step). reply (orElse (x .answer) (wholeFault (sheetOf (x .numbers)))) (sheetOf (x .numbers))) e

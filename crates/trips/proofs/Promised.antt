@@ -14,11 +14,11 @@ use Rattle.sheet.specs.declared.Answer.{Answer}
 use Rattle.sheet.specs.declared.Answer.the-variants.{Fine, Refused}
 use Rattle.sheet.specs.declared.Refusal.the-variants.{NoRoom}
 use Rattle.sheet.specs.Refusals.{isFine, orElse, unless}
-use Rattle.sheet.specs.Zero.{zeroPhase, zeroPoint, zeroSheet}
+use Rattle.sheet.specs.Zero.{zeroPhase, zeroPoint}
 use Rattle.sheet.proofs.Answers.{both-fine, bad-or}
-use Rattle.rows.specs.Table.{kinds, rows, kindOf, rangesOf, widthOf, placeOf, present}
-use Rattle.rows.specs.Flat.{numbersFrom, flatOf, sheetOf}
-use Rattle.rows.proofs.Again.{Graded, numbers-again, sheet-again}
+use Rattle.rows.specs.Table.{rowCount, numberCount, kinds, rows, kindOf, rangesOf, widthOf, placeOf, present}
+use Rattle.numbers.specs.Flat.{numbersFrom, flatOf, sheetOf}
+use Rattle.numbers.proofs.Again.{Graded, numbers-again, sheet-again}
 use Rattle.accept.specs.Lines.{linesFault}
 use Rattle.accept.specs.Whole.{wholeFault, acceptOf}
 use Rattle.accept.specs.Ranges.{Between}
@@ -29,8 +29,9 @@ use Rattle.reader.specs.Read.{Step}
 use Rattle.reader.specs.Read.{linesOf, reply, readOf}
 use Rattle.writer.specs.Text.{textFrom, textOf}
 use Rattle.writer.specs.Write.{answerTo, writtenOf, bytesOf}
-use Rattle.writer.proofs.Lengths.{short-text, longest-is}
-use Rattle.trips.specs.Promises.{Shaped, Blank, trimmed, SheetToText, SheetToSheet, TextToText, RefusedIsZero, ReadIsAccepted, WriteRefusesAlike, WrittenIsText, TextIsShort, ReadIsShort}
+use Rattle.sheet.specs.Entries.{Shaped}
+use Rattle.writer.proofs.Lengths.{short-text}
+use Rattle.trips.specs.Promises.{Blank, withEntries, trimmed, SheetToText, SheetToSheet, TextToText, ReadIsAccepted, WriteRefusesAlike, WrittenIsText, TextIsShort, ReadIsShort}
 use Rattle.trips.proofs.Kept.{kept-long, kept-same}
 use Rattle.trips.proofs.Back.{text-back}
 use Rattle.trips.proofs.Forth.{text-read}
@@ -38,7 +39,7 @@ use Rattle.trips.proofs.Trimmed.{text-same, fault-same, clear, whole-sa
 
 -- ---- sheet to text to sheet
 
-flat-long : (s : Sheet) → length (flatOf s) ≡ 118
+flat-long : (s : Sheet) → length (flatOf s) ≡ numberCount
 unfolding flatOf numbersFrom
 flat-long s = refl
 
@@ -66,32 +67,7 @@ unfolding trimmed
 blank-same s b =
     let p = kept-same zeroPhase (s .«phase_count») (s .phases) (b .phases) in
     let q = kept-same zeroPoint (s .«point_count») (s .points) (b .points) in
-    λ i. record {
-      issue = s .issue;
-      vehicle = s .vehicle;
-      grade = s .grade;
-      l01 = s .l01;
-      l02 = s .l02;
-      «phase_count» = s .«phase_count»;
-      phases = p i;
-      «track_yellow» = s .«track_yellow»;
-      «track_red» = s .«track_red»;
-      l18 = s .l18;
-      l19 = s .l19;
-      l20 = s .l20;
-      l28 = s .l28;
-      l30 = s .l30;
-      l31 = s .l31;
-      l33 = s .l33;
-      l37 = s .l37;
-      l39 = s .l39;
-      l47 = s .l47;
-      l56 = s .l56;
-      l57 = s .l57;
-      l58 = s .l58;
-      «point_count» = s .«point_count»;
-      points = q i;
-    }
+    λ i. withEntries s (p i) (q i)
 
 pub sheet-to-sheet : SheetToSheet
 sheet-to-sheet s h b e = sheet-to-text s h e ∙ ap (λ (x : Sheet). record { answer = Fine; sheet = x }) (blank-same s b)
@@ -105,15 +81,15 @@ reply-fine (Refused r l) s e = never (ap isFine e)
 
 -- the vehicle and the grade of numbers without a fault
 vehicle-in : (v : List ℕ) → linesFault v ≡ Fine → getD v 1 0 ≤ 3
-unfolding present pick rangesOf kindOf kinds rows placeOf widthOf
+unfolding present pick rangesOf kindOf placeOf widthOf
 vehicle-in v e =
-    let b : Between 0 (getD v 1 0) 3 = in-each v (placeOf 1) (rangesOf 1) (row-ranges v 1 (fine-rows v 45 0 1 e 1 (omega arith) refl)) 0 (omega arith) in
+    let b : Between 0 (getD v 1 0) 3 = in-each v (placeOf 1) (rangesOf 1) (row-ranges v 1 (fine-rows v rowCount 0 1 e 1 (omega arith) refl)) 0 (omega arith) in
     b .high
 
 grade-in : (v : List ℕ) → linesFault v ≡ Fine → Graded (getD v 2 0)
-unfolding present pick rangesOf kindOf kinds rows placeOf widthOf
+unfolding present pick rangesOf kindOf placeOf widthOf
 grade-in v e =
-    let b : Between 999920 (getD v 2 0) 1000080 = in-each v (placeOf 2) (rangesOf 2) (row-ranges v 2 (fine-rows v 45 0 1 e 2 (omega arith) refl)) 0 (omega arith) in
+    let b : Between 999920 (getD v 2 0) 1000080 = in-each v (placeOf 2) (rangesOf 2) (row-ranges v 2 (fine-rows v rowCount 0 1 e 2 (omega arith) refl)) 0 (omega arith) in
     graded (getD v 2 0) b
 
 record Back (t : List ℕ) (s : Sheet) : Type 0 where
@@ -131,7 +107,7 @@ read-back t e =
     let flat : flatOf (sheetOf v) ≡ v = numbers-again v (w .long) (vehicle-in v (w .checked)) (grade-in v (w .checked)) in
     record {
       sheet = r .1;
-      text = ap (λ (x : List ℕ). textFrom x 45 0) flat ∙ sym (w .text);
+      text = ap (λ (x : List ℕ). textFrom x rowCount 0) flat ∙ sym (w .text);
       accepted = ap (λ (x : List ℕ). orElse (linesFault x) (wholeFault (sheetOf v))) flat ∙ (λ i. orElse (w .checked i) (both .1 i));
     }
 
@@ -142,15 +118,6 @@ text-to-text t s e =
 
 pub read-is-accepted : ReadIsAccepted
 read-is-accepted t e = let b = read-back t e in ap acceptOf (b .sheet) ∙ b .accepted
-
-reply-refused : (a : Answer) (s : Sheet) → isFine (reply a s .answer) ≡ false → reply a s .sheet ≡ zeroSheet
-unfolding reply pick
-reply-refused Fine s e = never (sym e)
-reply-refused (Refused r l) s e = refl
-
-pub refused-is-zero : RefusedIsZero
-unfolding readOf
-refused-is-zero t e = reply-refused (orElse (linesOf t .answer) (wholeFault (sheetOf (linesOf t .numbers)))) (sheetOf (linesOf t .numbers)) e
 
 -- ---- writing
 
@@ -168,7 +135,7 @@ written-is-text s old e =
     (λ t. never (sym t ∙ ap isFine (rw t at e)))
 
 pub text-is-short : TextIsShort
-text-is-short s = omega (arith, short-text (flatOf s) 45 0, longest-is)
+text-is-short s = omega (arith, short-text (flatOf s) rowCount 0)
 
 pub read-is-short : ReadIsShort
 read-is-short t e = let b = read-back t e in rw (← (b .text)) (text-is-short (sheetOf (linesOf t .numbers)))

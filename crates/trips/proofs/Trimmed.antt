@@ -2,11 +2,11 @@
 use Prim.Native.Nat.{ℕ, zero, suc, _+_, _-_, _*_, _≤_, _<_}
 use mathlib.Core.Path.{_≡_, refl, sym, ap, _∙_}
 use mathlib.Core.List.{List, _++_}
-use mathlib.Core.Bool.{true}
+use mathlib.Core.Bool.{Bool, true}
 use native.Mathlib.Omega.{arith}
 use lib.ListN.{getD, take, drop}
 use lib.Seq.{getD-take, getD-drop}
-use lib.Dec.{ltb, leb, leb→le}
+use lib.Dec.{T, ltb, leb, leb→le}
 use borrow.Author.Tests.{lt-ltb, le-ltb, ltb-true, ltb-false}
 use Rattle.units.specs.Numbers.{pick}
 use Rattle.units.proofs.Steps.{split, never}
@@ -17,65 +17,71 @@ use Rattle.sheet.specs.declared.Point.{Point}
 use Rattle.sheet.specs.declared.Refusal.the-variants.{RelocationBeyondStorage, WarningTooShort, BeyondLastPoint, TrackLongerThanTransfer}
 use Rattle.sheet.specs.Refusals.{orElse, unless}
 use Rattle.sheet.specs.Zero.{zeroPhase, zeroPoint}
-use Rattle.rows.specs.Table.{kinds, rows, kindOf, rangesOf, widthOf, placeOf, present}
-use Rattle.rows.specs.Flat.{phaseNumbers, pointNumbers, numbersFrom, flatOf, phaseAt, pointAt}
-use Rattle.transfer.specs.Transfer.{line16}
+use Rattle.rows.specs.Table.{mostPhases, mostPoints, placeFor, firstPhase, firstPoint, rowCount, kinds, rows, kindOf, rangesOf, widthOf, placeOf, present}
+use Rattle.numbers.specs.Flat.{phasePlace, pointPlace, phaseNumbers, pointNumbers, numbersFrom, flatOf, phaseAt, pointAt}
+use Rattle.transfer.specs.Transfer.{trackFits}
 use Rattle.accept.specs.Lines.{hereFault, lineAfter, ruleFault, faultFrom}
-use Rattle.accept.specs.Whole.{leastWarning, reach, wholeFault}
+use Rattle.accept.specs.Whole.{leastWarning, line48, wholeFault}
 use Rattle.accept.proofs.Sound.{phase-in, point-in, phases-at, points-at, phase-kind, phase-place, point-kind, point-place}
 use Rattle.writer.specs.Text.{hereText, textFrom}
 use Rattle.trips.specs.Promises.{trimmed}
 use Rattle.trips.proofs.Kept.{kept-at, kept-past, kept-take}
 use Rattle.trips.proofs.Agree.{Row, row-agree, present-agree, rule-agree, fault-agree, before-agree, fits-agree, phase-row, point-row}
 use Rattle.trips.proofs.Back.{Clear, zeros-in}
+use Rattle.rows.proofs.Tables.{pastPhases}
 
 -- ---- the rows in their four parts
 
-by-part : {X : Type 0} (row : ℕ) → row < 45 → (row < 6 → X) → ((i : ℕ) → i < 8 → 6 + i ≡ row → X) → (14 ≤ row → row < 29 → X) → ((i : ℕ) → i < 16 → 29 + i ≡ row → X) → X
+by-part : {X : Type 0} (row : ℕ) → row < rowCount → (row < firstPhase → X) → ((i : ℕ) → i < mostPhases → firstPhase + i ≡ row → X) → (pastPhases ≤ row → row < firstPoint → X) → ((i : ℕ) → i < mostPoints → firstPoint + i ≡ row → X) → X
 by-part row h a b c d =
-    split (ltb row 6) (λ t. a (ltb-true row 6 t))
-    (λ t. split (ltb row 14)
-    (λ t₁. b (row - 6) (omega (arith, ltb-false row 6 t, ltb-true row 14 t₁)) (omega (arith, ltb-false row 6 t)))
-    (λ t₁. split (ltb row 29)
-    (λ t₂. c (ltb-false row 14 t₁) (ltb-true row 29 t₂))
-    (λ t₂. d (row - 29) (omega (arith, ltb-false row 29 t₂)) (omega (arith, ltb-false row 29 t₂)))))
+    split (ltb row firstPhase) (λ t. a (ltb-true row firstPhase t))
+    (λ t. split (ltb row pastPhases)
+    (λ t₁. b (row - firstPhase) (omega (arith, ltb-false row firstPhase t, ltb-true row pastPhases t₁)) (omega (arith, ltb-false row firstPhase t)))
+    (λ t₁. split (ltb row firstPoint)
+    (λ t₂. c (ltb-false row pastPhases t₁) (ltb-true row firstPoint t₂))
+    (λ t₂. d (row - firstPoint) (omega (arith, ltb-false row firstPoint t₂)) (omega (arith, ltb-false row firstPoint t₂)))))
 
-head-row : (row : ℕ) → row < 6 → placeOf row + widthOf row ≤ 6
-unfolding placeOf widthOf rangesOf kindOf kinds rows
-head-row row h = leb→le (placeOf row + widthOf row) 6 (at (λ (r : ℕ). leb (placeOf r + widthOf r) 6) 6 tt row h)
+head-row : (row : ℕ) → row < firstPhase → placeOf row + widthOf row ≤ placeFor "phase"
+unfolding placeOf widthOf rangesOf kindOf
+head-row row h =
+    leb→le (placeOf row + widthOf row) (placeFor "phase") (at (λ (r : ℕ). leb (placeOf r + widthOf r) (placeFor "phase")) firstPhase tt row h)
 
-middle-row : (row : ℕ) → 14 ≤ row → row < 29 → (70 ≤ placeOf row) × (placeOf row + widthOf row ≤ 86)
-unfolding placeOf widthOf rangesOf kindOf kinds rows
+-- the numbers between the phases and the points
+abbrev between : ℕ → Bool
+between row = also (leb (placeFor "track") (placeOf row)) (leb (placeOf row + widthOf row) (placeFor "point"))
+
+middle-row : (row : ℕ) → pastPhases ≤ row → row < firstPoint → (placeFor "track" ≤ placeOf row) × (placeOf row + widthOf row ≤ placeFor "point")
+unfolding placeOf widthOf rangesOf kindOf
 middle-row row l h =
-    let e : 14 + (row - 14) ≡ row = omega arith in
-    let t = at (λ (r : ℕ). also (leb 70 (placeOf (14 + r))) (leb (placeOf (14 + r) + widthOf (14 + r)) 86)) 15 tt (row - 14) (omega arith) in
-    let a = leb→le 70 (placeOf (14 + (row - 14))) (also-left (leb 70 (placeOf (14 + (row - 14)))) (leb (placeOf (14 + (row - 14)) + widthOf (14 + (row - 14))) 86) t) in
-    let b = leb→le (placeOf (14 + (row - 14)) + widthOf (14 + (row - 14))) 86 (also-right (leb 70 (placeOf (14 + (row - 14)))) (leb (placeOf (14 + (row - 14)) + widthOf (14 + (row - 14))) 86) t) in
-    (rw e at a, rw e at b)
+    let e : pastPhases + (row - pastPhases) ≡ row = omega arith in
+    let t : T (between row) = rw e at (at (λ (r : ℕ). between (pastPhases + r)) (firstPoint - pastPhases) tt (row - pastPhases) (omega arith)) in (
+      leb→le (placeFor "track") (placeOf row) (also-left (leb (placeFor "track") (placeOf row)) (leb (placeOf row + widthOf row) (placeFor "point")) t),
+      leb→le (placeOf row + widthOf row) (placeFor "point") (also-right (leb (placeFor "track") (placeOf row)) (leb (placeOf row + widthOf row) (placeFor "point")) t),
+    )
 
-head-present : (v : List ℕ) (row : ℕ) → row < 6 → present v row ≡ true
+head-present : (v : List ℕ) (row : ℕ) → row < firstPhase → present v row ≡ true
 unfolding present pick
-head-present v row h = rw (lt-ltb row 6 h)
+head-present v row h = rw (lt-ltb row firstPhase h)
 
-middle-present : (v : List ℕ) (row : ℕ) → 14 ≤ row → row < 29 → present v row ≡ true
+middle-present : (v : List ℕ) (row : ℕ) → pastPhases ≤ row → row < firstPoint → present v row ≡ true
 unfolding present pick
-middle-present v row l h = rw (le-ltb row 6 (omega arith), le-ltb row 14 l, lt-ltb row 29 h)
+middle-present v row l h = rw (le-ltb row firstPhase (omega arith), le-ltb row pastPhases l, lt-ltb row firstPoint h)
 
-phase-counted : (v : List ℕ) (i : ℕ) → i < 8 → present v (6 + i) ≡ ltb i (getD v 5 0)
+phase-counted : (v : List ℕ) (i : ℕ) → i < mostPhases → present v (firstPhase + i) ≡ ltb i (getD v (placeFor "phases") 0)
 unfolding present pick
 phase-counted v i h =
-    let e : 6 + i - 6 ≡ i = omega arith in
-    rw (le-ltb (6 + i) 6 (omega arith), lt-ltb (6 + i) 14 (omega arith), e)
+    let e : firstPhase + i - firstPhase ≡ i = omega arith in
+    rw (le-ltb (firstPhase + i) firstPhase (omega arith), lt-ltb (firstPhase + i) pastPhases (omega arith), e)
 
-point-counted : (v : List ℕ) (i : ℕ) → i < 16 → present v (29 + i) ≡ ltb i (getD v 85 0)
+point-counted : (v : List ℕ) (i : ℕ) → i < mostPoints → present v (firstPoint + i) ≡ ltb i (getD v (placeFor "points") 0)
 unfolding present pick
 point-counted v i h =
-    let e : 29 + i - 29 ≡ i = omega arith in
-    rw (le-ltb (29 + i) 6 (omega arith), le-ltb (29 + i) 14 (omega arith), le-ltb (29 + i) 29 (omega arith), e)
+    let e : firstPoint + i - firstPoint ≡ i = omega arith in
+    rw (le-ltb (firstPoint + i) firstPhase (omega arith), le-ltb (firstPoint + i) pastPhases (omega arith), le-ltb (firstPoint + i) firstPoint (omega arith), e)
 
 -- ---- a phase's and a point's numbers
 
-phase-entry : (v : List ℕ) (i j : ℕ) → j < 8 → getD v (6 + 8 * i + j) 0 ≡ getD (phaseNumbers (phaseAt v i)) j 0
+phase-entry : (v : List ℕ) (i j : ℕ) → j < 8 → getD v (phasePlace i + j) 0 ≡ getD (phaseNumbers (phaseAt v i)) j 0
 phase-entry v i zero h = ap (λ (k : ℕ). getD v k 0) (omega arith)
 phase-entry v i (suc zero) h = refl
 phase-entry v i (suc (suc zero)) h = refl
@@ -86,25 +92,25 @@ phase-entry v i (suc (suc (suc (suc (suc (suc zero)))))) h = refl
 phase-entry v i (suc (suc (suc (suc (suc (suc (suc zero))))))) h = refl
 phase-entry v i (suc (suc (suc (suc (suc (suc (suc (suc j)))))))) h = absurd (omega arith)
 
-point-entry : (v : List ℕ) (i j : ℕ) → j < 2 → getD v (86 + 2 * i + j) 0 ≡ getD (pointNumbers (pointAt v i)) j 0
+point-entry : (v : List ℕ) (i j : ℕ) → j < 2 → getD v (pointPlace i + j) 0 ≡ getD (pointNumbers (pointAt v i)) j 0
 point-entry v i zero h = ap (λ (k : ℕ). getD v k 0) (omega arith)
 point-entry v i (suc zero) h = refl
 point-entry v i (suc (suc j)) h = absurd (omega arith)
 
 -- a number of a phase row or a point row, by its phase or point
-phase-number : (v : List ℕ) (i m : ℕ) → i < 8 → placeOf (6 + i) ≤ m → m < placeOf (6 + i) + widthOf (6 + i) → getD v m 0 ≡ getD (phaseNumbers (phaseAt v i)) (m - (6 + 8 * i)) 0
+phase-number : (v : List ℕ) (i m : ℕ) → i < mostPhases → placeOf (firstPhase + i) ≤ m → m < placeOf (firstPhase + i) + widthOf (firstPhase + i) → getD v m 0 ≡ getD (phaseNumbers (phaseAt v i)) (m - (phasePlace i)) 0
 phase-number v i m h g l =
     let p = phase-place i h in
-    let w = phase-row (6 + i) (omega arith) (phase-kind i h) .2 in
-    let e : m ≡ 6 + 8 * i + (m - (6 + 8 * i)) = omega arith in
-    ap (λ (k : ℕ). getD v k 0) e ∙ phase-entry v i (m - (6 + 8 * i)) (omega arith)
+    let w = phase-row (firstPhase + i) (omega arith) (phase-kind i h) .2 in
+    let e : m ≡ phasePlace i + (m - (phasePlace i)) = omega arith in
+    ap (λ (k : ℕ). getD v k 0) e ∙ phase-entry v i (m - (phasePlace i)) (omega arith)
 
-point-number : (v : List ℕ) (i m : ℕ) → i < 16 → placeOf (29 + i) ≤ m → m < placeOf (29 + i) + widthOf (29 + i) → getD v m 0 ≡ getD (pointNumbers (pointAt v i)) (m - (86 + 2 * i)) 0
+point-number : (v : List ℕ) (i m : ℕ) → i < mostPoints → placeOf (firstPoint + i) ≤ m → m < placeOf (firstPoint + i) + widthOf (firstPoint + i) → getD v m 0 ≡ getD (pointNumbers (pointAt v i)) (m - (pointPlace i)) 0
 point-number v i m h g l =
     let p = point-place i h in
-    let w = point-row (29 + i) (omega arith) (point-kind i h) .1 in
-    let e : m ≡ 86 + 2 * i + (m - (86 + 2 * i)) = omega arith in
-    ap (λ (k : ℕ). getD v k 0) e ∙ point-entry v i (m - (86 + 2 * i)) (omega arith)
+    let w = point-row (firstPoint + i) (omega arith) (point-kind i h) .1 in
+    let e : m ≡ pointPlace i + (m - (pointPlace i)) = omega arith in
+    ap (λ (k : ℕ). getD v k 0) e ∙ point-entry v i (m - (pointPlace i)) (omega arith)
 
 -- ---- the two sheets
 
@@ -115,85 +121,88 @@ module _ (s : Sheet) where
   abbrev w : List ℕ
   w = flatOf (trimmed s)
 
-  head-same : (m : ℕ) → m < 6 → getD w m 0 ≡ getD v m 0
+  head-same : (m : ℕ) → m < placeFor "phase" → getD w m 0 ≡ getD v m 0
   unfolding flatOf trimmed
   head-same m h =
-      let e : take 6 w ≡ take 6 v = refl in
-      sym (getD-take 6 w m 0 h) ∙ ap (λ (l : List ℕ). getD l m 0) e ∙ getD-take 6 v m 0 h
+      let n = placeFor "phase" in
+      let e : take n w ≡ take n v = refl in
+      sym (getD-take n w m 0 h) ∙ ap (λ (l : List ℕ). getD l m 0) e ∙ getD-take n v m 0 h
 
-  middle-same : (m : ℕ) → 70 ≤ m → m < 86 → getD w m 0 ≡ getD v m 0
+  middle-same : (m : ℕ) → placeFor "track" ≤ m → m < placeFor "point" → getD w m 0 ≡ getD v m 0
   unfolding flatOf numbersFrom trimmed
   middle-same m l h =
-      let e : take 16 (drop 70 w) ≡ take 16 (drop 70 v) = refl in
-      let k = m - 70 in
-      let b : k < 16 = omega arith in
-      let q : 70 + k ≡ m = omega arith in
+      let f = placeFor "track" in
+      let n = placeFor "point" - placeFor "track" in
+      let e : take n (drop f w) ≡ take n (drop f v) = refl in
+      let k = m - f in
+      let b : k < n = omega arith in
+      let q : f + k ≡ m = omega arith in
       ap (λ (i : ℕ). getD w i 0) (sym q)
-      ∙ sym (getD-take 16 (drop 70 w) k 0 b ∙ getD-drop 70 w k 0)
+      ∙ sym (getD-take n (drop f w) k 0 b ∙ getD-drop f w k 0)
       ∙ ap (λ (x : List ℕ). getD x k 0) e
-      ∙ (getD-take 16 (drop 70 v) k 0 b ∙ getD-drop 70 v k 0)
+      ∙ (getD-take n (drop f v) k 0 b ∙ getD-drop f v k 0)
       ∙ ap (λ (i : ℕ). getD v i 0) q
 
-  phase-same : (i : ℕ) → i < 8 → i < s .«phase_count» → phaseAt w i ≡ phaseAt v i
+  phase-same : (i : ℕ) → i < mostPhases → i < s .«phase_count» → phaseAt w i ≡ phaseAt v i
   unfolding trimmed
   phase-same i h c = phase-in (trimmed s) i h ∙ kept-at zeroPhase (s .«phase_count») (s .phases) i c ∙ sym (phase-in s i h)
 
-  phase-none : (i : ℕ) → i < 8 → s .«phase_count» ≤ i → phaseAt w i ≡ zeroPhase
+  phase-none : (i : ℕ) → i < mostPhases → s .«phase_count» ≤ i → phaseAt w i ≡ zeroPhase
   unfolding trimmed
   phase-none i h c = phase-in (trimmed s) i h ∙ kept-past zeroPhase (s .«phase_count») (s .phases) i c
 
-  point-same : (i : ℕ) → i < 16 → i < s .«point_count» → pointAt w i ≡ pointAt v i
+  point-same : (i : ℕ) → i < mostPoints → i < s .«point_count» → pointAt w i ≡ pointAt v i
   unfolding trimmed
   point-same i h c = point-in (trimmed s) i h ∙ kept-at zeroPoint (s .«point_count») (s .points) i c ∙ sym (point-in s i h)
 
-  point-none : (i : ℕ) → i < 16 → s .«point_count» ≤ i → pointAt w i ≡ zeroPoint
+  point-none : (i : ℕ) → i < mostPoints → s .«point_count» ≤ i → pointAt w i ≡ zeroPoint
   unfolding trimmed
   point-none i h c = point-in (trimmed s) i h ∙ kept-past zeroPoint (s .«point_count») (s .points) i c
 
-  counts-same : (getD w 5 0 ≡ getD v 5 0) × (getD w 85 0 ≡ getD v 85 0)
+  counts-same : (getD w (placeFor "phases") 0 ≡ getD v (placeFor "phases") 0) × (getD w (placeFor "points") 0 ≡ getD v (placeFor "points") 0)
   unfolding trimmed
   counts-same = (phases-at (trimmed s) ∙ sym (phases-at s), points-at (trimmed s) ∙ sym (points-at s))
 
   present-same : (row : ℕ) → present w row ≡ present v row
   present-same row = present-agree row v w (λ l. counts-same .0) (λ l. counts-same .1)
 
-  counted-phase : (i : ℕ) → i < 8 → present v (6 + i) ≡ true → i < s .«phase_count»
-  counted-phase i h a = rw (phases-at s) at (ltb-true i (getD v 5 0) (sym (phase-counted v i h) ∙ a))
+  counted-phase : (i : ℕ) → i < mostPhases → present v (firstPhase + i) ≡ true → i < s .«phase_count»
+  counted-phase i h a = rw (phases-at s) at (ltb-true i (getD v (placeFor "phases") 0) (sym (phase-counted v i h) ∙ a))
 
-  counted-point : (i : ℕ) → i < 16 → present v (29 + i) ≡ true → i < s .«point_count»
-  counted-point i h a = rw (points-at s) at (ltb-true i (getD v 85 0) (sym (point-counted v i h) ∙ a))
+  counted-point : (i : ℕ) → i < mostPoints → present v (firstPoint + i) ≡ true → i < s .«point_count»
+  counted-point i h a = rw (points-at s) at (ltb-true i (getD v (placeFor "points") 0) (sym (point-counted v i h) ∙ a))
 
-  row-same : (row : ℕ) → row < 45 → present v row ≡ true → Row row v w
+  row-same : (row : ℕ) → row < rowCount → present v row ≡ true → Row row v w
   row-same row h a =
       by-part row h
       (λ l m g b. head-same m (omega (arith, head-row row l)))
       (λ i l e m g b.
       let p = phase-number w i m l (rw (← e) at g) (rw (← e) at b) in
       let q = phase-number v i m l (rw (← e) at g) (rw (← e) at b) in
-      p ∙ ap (λ (x : Phase). getD (phaseNumbers x) (m - (6 + 8 * i)) 0) (phase-same i l (counted-phase i l (rw (← e) at a))) ∙ sym q)
+      p ∙ ap (λ (x : Phase). getD (phaseNumbers x) (m - (phasePlace i)) 0) (phase-same i l (counted-phase i l (rw (← e) at a))) ∙ sym q)
       (λ l k m g b. let r = middle-row row l k in middle-same m (omega (arith, r .0)) (omega (arith, r .1)))
       (λ i l e m g b.
       let p = point-number w i m l (rw (← e) at g) (rw (← e) at b) in
       let q = point-number v i m l (rw (← e) at g) (rw (← e) at b) in
-      p ∙ ap (λ (x : Point). getD (pointNumbers x) (m - (86 + 2 * i)) 0) (point-same i l (counted-point i l (rw (← e) at a))) ∙ sym q)
+      p ∙ ap (λ (x : Point). getD (pointNumbers x) (m - (pointPlace i)) 0) (point-same i l (counted-point i l (rw (← e) at a))) ∙ sym q)
 
-  rule-same : (row line : ℕ) → row < 45 → present v row ≡ true → ruleFault w row line ≡ ruleFault v row line
+  rule-same : (row line : ℕ) → row < rowCount → present v row ≡ true → ruleFault w row line ≡ ruleFault v row line
   rule-same row line h a =
       rule-agree row line v w
       (λ e.
       let r = phase-row row h e in
-      let i = row - 6 in
-      let q : 6 + (row - 6) ≡ row = omega (arith, r .0) in
+      let i = row - firstPhase in
+      let q : firstPhase + (row - firstPhase) ≡ row = omega (arith, r .0) in
       let c = counted-phase i (omega (arith, r .1)) (rw q a) in
       (phase-same i (omega (arith, r .1)) c, before-agree i v w (λ z. phase-same (i - 1) (omega (arith, r .1)) (omega arith))))
       (λ e.
       let r = point-row row h e in
-      let i = row - 29 in
-      let q : 29 + (row - 29) ≡ row = omega (arith, r .0) in
+      let i = row - firstPoint in
+      let q : firstPoint + (row - firstPoint) ≡ row = omega (arith, r .0) in
       let c = counted-point i (omega arith) (rw q a) in
       fits-agree i v w (point-same i (omega arith) c) (λ z. point-same (i - 1) (omega arith) (omega arith)))
 
-  here-same : (row line : ℕ) → row < 45 → (hereText row w ≡ hereText row v) × (hereFault w row line ≡ hereFault v row line)
+  here-same : (row line : ℕ) → row < rowCount → (hereText row w ≡ hereText row v) × (hereFault w row line ≡ hereFault v row line)
   unfolding hereText hereFault pick
   here-same row line h =
       split (present v row)
@@ -203,7 +212,7 @@ module _ (s : Sheet) where
       (rw (a, b) (row-agree row v w r), rw (a, b) (fault-agree row line v w r (rule-same row line h a))))
       (λ a. let b = present-same row ∙ a in (rw (a, b), rw (a, b)))
 
-  text-from : (n row : ℕ) → n + row ≤ 45 → textFrom w n row ≡ textFrom v n row
+  text-from : (n row : ℕ) → n + row ≤ rowCount → textFrom w n row ≡ textFrom v n row
   unfolding textFrom
   text-from zero row h = refl
   text-from (suc n) row h =
@@ -211,7 +220,7 @@ module _ (s : Sheet) where
       let r = text-from n (row + 1) (omega arith) in
       λ d. e d ++ r d
 
-  fault-from : (n row line : ℕ) → n + row ≤ 45 → faultFrom w n row line ≡ faultFrom v n row line
+  fault-from : (n row line : ℕ) → n + row ≤ rowCount → faultFrom w n row line ≡ faultFrom v n row line
   unfolding faultFrom lineAfter
   fault-from zero row line h = refl
   fault-from (suc n) row line h =
@@ -219,25 +228,25 @@ module _ (s : Sheet) where
       let r = fault-from n (row + 1) (pick (present v row) (line + 1) line) (omega arith) in
       rw (present-same row) (λ d. orElse (e d) (r d))
 
-  pub text-same : textFrom w 45 0 ≡ textFrom v 45 0
-  text-same = text-from 45 0 (omega arith)
+  pub text-same : textFrom w rowCount 0 ≡ textFrom v rowCount 0
+  text-same = text-from rowCount 0 (omega arith)
 
-  pub fault-same : faultFrom w 45 0 1 ≡ faultFrom v 45 0 1
-  fault-same = fault-from 45 0 1 (omega arith)
+  pub fault-same : faultFrom w rowCount 0 1 ≡ faultFrom v rowCount 0 1
+  fault-same = fault-from rowCount 0 1 (omega arith)
 
   pub clear : Clear 0 w
   clear row z h a =
       by-part row h
       (λ l. never (sym a ∙ head-present w row l))
       (λ i l e m g b.
-      let n = ltb-false i (getD w 5 0) (sym (phase-counted w i l) ∙ rw (← e) at a) in
+      let n = ltb-false i (getD w (placeFor "phases") 0) (sym (phase-counted w i l) ∙ rw (← e) at a) in
       let c : s .«phase_count» ≤ i = rw (counts-same .0 ∙ phases-at s) at n in
-      phase-number w i m l (rw (← e) at g) (rw (← e) at b) ∙ ap (λ (x : Phase). getD (phaseNumbers x) (m - (6 + 8 * i)) 0) (phase-none i l c) ∙ zeros-in 8 (m - (6 + 8 * i)))
+      phase-number w i m l (rw (← e) at g) (rw (← e) at b) ∙ ap (λ (x : Phase). getD (phaseNumbers x) (m - (phasePlace i)) 0) (phase-none i l c) ∙ zeros-in 8 (m - (phasePlace i)))
       (λ l k. never (sym a ∙ middle-present w row l k))
       (λ i l e m g b.
-      let n = ltb-false i (getD w 85 0) (sym (point-counted w i l) ∙ rw (← e) at a) in
+      let n = ltb-false i (getD w (placeFor "points") 0) (sym (point-counted w i l) ∙ rw (← e) at a) in
       let c : s .«point_count» ≤ i = rw (counts-same .1 ∙ points-at s) at n in
-      point-number w i m l (rw (← e) at g) (rw (← e) at b) ∙ ap (λ (x : Point). getD (pointNumbers x) (m - (86 + 2 * i)) 0) (point-none i l c) ∙ zeros-in 2 (m - (86 + 2 * i)))
+      point-number w i m l (rw (← e) at g) (rw (← e) at b) ∙ ap (λ (x : Point). getD (pointNumbers x) (m - (pointPlace i)) 0) (point-none i l c) ∙ zeros-in 2 (m - (pointPlace i)))
 
   pub whole-same : 1 ≤ s .«point_count» → wholeFault (trimmed s) ≡ wholeFault s
   unfolding wholeFault trimmed
@@ -247,4 +256,4 @@ module _ (s : Sheet) where
       λ d.
       orElse (unless (leb (s .l47) (s .l18)) RelocationBeyondStorage 0)
       (orElse (unless (leb (leastWarning (s .l19)) (s .l31)) WarningTooShort 0)
-      (orElse (unless (leb (reach s) (last d .feet)) BeyondLastPoint 0) (unless (leb (s .«track_yellow» + s .«track_red») (line16 (transfer d) .0)) TrackLongerThanTransfer 0)))
+      (orElse (unless (leb (line48 s) (last d .feet)) BeyondLastPoint 0) (unless (trackFits (transfer d) (s .«track_yellow») (s .«track_red»)) TrackLongerThanTransfer 0)))

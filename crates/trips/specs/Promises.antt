@@ -4,26 +4,27 @@ use mathlib.Core.Path.{_≡_}
 use mathlib.Core.Bool.{false}
 use mathlib.Core.List.{List, _++_}
 use lib.ListN.{length, getD, take, replicate}
+use Rattle.sheet.specs.declared.Phase.{Phase}
+use Rattle.sheet.specs.declared.Point.{Point}
 use Rattle.sheet.specs.declared.Sheet.{Sheet}
 use Rattle.sheet.specs.declared.Answer.the-variants.{Fine}
+use Rattle.sheet.specs.Entries.{Shaped}
 use Rattle.sheet.specs.Refusals.{isFine}
-use Rattle.sheet.specs.Zero.{zeroPhase, zeroPoint, zeroSheet}
+use Rattle.sheet.specs.Zero.{zeroPhase, zeroPoint}
+use Rattle.rows.specs.Table.{mostPhases, mostPoints}
+use Rattle.rows.specs.Longest.{longest}
 use Rattle.accept.specs.Whole.{acceptOf}
 use Rattle.reader.specs.Read.{readOf}
 use Rattle.writer.specs.Text.{textOf}
 use Rattle.writer.specs.Write.{writtenOf, bytesOf}
 
--- what every value of the type Sheet has
-pub record Shaped (s : Sheet) : Type 0 where
-  pub phases : length (s .phases) ≡ 8
-  pub points : length (s .points) ≡ 16
-
 -- "Array entries past a count are no part of a sheet": the first n entries, and zeros for the rest
 unfoldable pub kept : {A : Type 0} → A → ℕ → List A → List A
 kept none n xs = take n xs ++ replicate (length xs - n) none
 
-unfoldable pub trimmed : Sheet → Sheet
-trimmed s =
+-- the sheet with these phases and points in place of its own
+abbrev pub withEntries : Sheet → List Phase → List Point → Sheet
+withEntries s phases points =
     record {
       issue = s .issue;
       vehicle = s .vehicle;
@@ -31,7 +32,7 @@ trimmed s =
       l01 = s .l01;
       l02 = s .l02;
       «phase_count» = s .«phase_count»;
-      phases = kept zeroPhase (s .«phase_count») (s .phases);
+      phases = phases;
       «track_yellow» = s .«track_yellow»;
       «track_red» = s .«track_red»;
       l18 = s .l18;
@@ -48,8 +49,11 @@ trimmed s =
       l57 = s .l57;
       l58 = s .l58;
       «point_count» = s .«point_count»;
-      points = kept zeroPoint (s .«point_count») (s .points);
+      points = points;
     }
+
+unfoldable pub trimmed : Sheet → Sheet
+trimmed s = withEntries s (kept zeroPhase (s .«phase_count») (s .phases)) (kept zeroPoint (s .«point_count») (s .points))
 
 -- sheet to text to sheet: the text of an accepted sheet is read as that sheet; "reading leaves them 0"
 abbrev pub SheetToText : Type 0
@@ -68,10 +72,6 @@ SheetToSheet = (s : Sheet) → Shaped s → Blank s → acceptOf s ≡ Fine → 
 abbrev pub TextToText : Type 0
 TextToText = (t : List ℕ) (s : Sheet) → readOf t ≡ record { answer = Fine; sheet = s } → textOf s ≡ t
 
--- "A refused read .. gives only zeros beside its number (vehicle car)"
-abbrev pub RefusedIsZero : Type 0
-RefusedIsZero = (t : List ℕ) → isFine (readOf t .answer) ≡ false → readOf t .sheet ≡ zeroSheet
-
 -- what a text gives is accepted as values too: "A sheet handed over as values .. meets 2 to 10 again"
 abbrev pub ReadIsAccepted : Type 0
 ReadIsAccepted = (t : List ℕ) → readOf t .answer ≡ Fine → acceptOf (readOf t .sheet) ≡ Fine
@@ -84,10 +84,7 @@ WriteRefusesAlike = (s : Sheet) (room : ℕ) → isFine (acceptOf s) ≡ false �
 abbrev pub WrittenIsText : Type 0
 WrittenIsText = (s : Sheet) (old : List ℕ) → writtenOf s (length old) .answer ≡ Fine → take (writtenOf s (length old) .length) (bytesOf s old) ≡ textOf s
 
--- no text of a sheet, and so no text that is read, is longer than this
-abbrev pub longest : ℕ
-longest = 1069
-
+-- no text of a sheet, and so no text that is read, is longer than the table lets it be
 abbrev pub TextIsShort : Type 0
 TextIsShort = (s : Sheet) → length (textOf s) ≤ longest
 

@@ -1,17 +1,17 @@
 -- How long the parts of a text can be, part by part. Assumes nothing.
 use Prim.Native.Nat.{ℕ, zero, suc, _+_, _-_, _*_, _/_, _%_, _≤_}
-use mathlib.Core.Path.{_≡_, refl}
+use mathlib.Core.Path.{_≡_}
 use mathlib.Core.List.{List, [], _∷_, _++_}
 use native.Mathlib.Omega.{arith}
-use lib.ListN.{length, getD, drop, length-append, length-take}
-use lib.Dec.{ltb, eqb}
+use lib.ListN.{length, getD, length-append}
+use lib.Dec.{ltb, eqb, leb→le}
 use Rattle.units.specs.Numbers.{pick}
 use Rattle.units.proofs.Steps.{split}
-use Rattle.rows.specs.Table.{bytes, kinds, rows, keyOf, formOf, widthOf, placeOf, rangesOf, kindOf, keyStart, keyEnd, present}
+use Rattle.rows.specs.Table.{keyOf, formOf, widthOf, placeOf, rangesOf, kindOf, present}
 use Rattle.rows.specs.Marks.{markOf, words, wordOf, lineFeed}
-use Rattle.rows.proofs.Keys.{keyBytes, key-part, end-all}
+use Rattle.rows.specs.Longest.{longestField, longestFields, longestRow, longestFrom, longest}
 use Rattle.writer.specs.Digits.{digitsIn, digits}
-use Rattle.writer.specs.Text.{signedText, fieldText, fieldsText, rowText, hereText, textFrom, longestField, longestFields, longestRow, longestFrom, longest}
+use Rattle.writer.specs.Text.{signedText, fieldText, fieldsText, rowText, hereText, textFrom}
 
 short-in : (f n : ℕ) → length (digitsIn f n) ≤ f + 1
 unfolding digitsIn pick
@@ -24,7 +24,7 @@ pub short-digits : (n : ℕ) → length (digits n) ≤ 6
 short-digits n = short-in 5 n
 
 pub short-word : (x : ℕ) → length (wordOf x) ≤ 4
-unfolding words bytes
+unfolding words
 short-word zero = omega arith
 short-word (suc zero) = omega arith
 short-word (suc (suc zero)) = omega arith
@@ -32,7 +32,7 @@ short-word (suc (suc (suc zero))) = omega arith
 short-word (suc (suc (suc (suc n)))) = omega arith
 
 short-signed : (x : ℕ) → length (signedText x) ≤ 7
-unfolding signedText pick bytes
+unfolding signedText pick
 short-signed x =
     split (ltb x 1000000)
     (λ t. rw t (omega (arith, short-digits ((1000000 - x) % 1000000))))
@@ -50,7 +50,7 @@ seven form =
     split (eqb form 1) (λ t. rw t (omega arith)) (λ t. split (eqb form 2) (λ t₁. rw (t, t₁) (omega arith)) (λ t₁. rw (t, t₁) (omega arith)))
 
 pub mark-long : (j : ℕ) → length (markOf j) ≡ 1
-unfolding markOf pick bytes
+unfolding markOf pick
 mark-long j = split (ltb j 1) (λ t. rw t) (λ t. rw t)
 
 pub short-fields : (form place n j : ℕ) (v : List ℕ) → length (fieldsText form place n j v) ≤ longestFields form n
@@ -64,10 +64,6 @@ pub eight-each : (form n : ℕ) → longestFields form n ≤ 8 * n
 unfolding longestFields
 eight-each form zero = omega arith
 eight-each form (suc n) = omega (arith, seven form, eight-each form n)
-
-pub short-key : (row : ℕ) → length (keyOf row) ≤ 89
-short-key row =
-    rw (← (key-part row), length-take (keyEnd row - keyStart row) (drop (keyStart row) keyBytes)) (omega (arith, end-all row))
 
 pub short-row : (row : ℕ) (v : List ℕ) → length (rowText row v) ≤ longestRow row
 unfolding rowText
@@ -85,7 +81,7 @@ short-text v zero row = omega arith
 short-text v (suc n) row =
     rw (length-append (hereText row v) (textFrom v n (row + 1))) (omega (arith, short-here row v, short-text v n (row + 1)))
 
--- the longest text of all
-pub longest-is : longest ≡ 1069
-unfolding longestFrom longestFields longestField pick keyOf formOf widthOf rangesOf kindOf kinds rows bytes
-longest-is = refl
+-- the places of a text are small
+pub longest-small : longest ≤ 8000
+unfolding longestFrom longestFields longestField pick keyOf formOf widthOf rangesOf kindOf
+longest-small = leb→le longest 8000 tt

@@ -16,9 +16,9 @@ use Rattle.sheet.specs.declared.Answer.the-variants.{Fine, Refused}
 use Rattle.sheet.specs.declared.Refusal.the-variants.{NoRoom}
 use Rattle.sheet.specs.Refusals.{isFine, orElse, unless}
 use Rattle.sheet.proofs.Answers.{fine-or, bad-or, holds, fails}
-use Rattle.rows.specs.Table.{present}
+use Rattle.rows.specs.Table.{rowCount, present}
 use Rattle.rows.specs.Marks.{markOf}
-use Rattle.rows.specs.Flat.{flatOf}
+use Rattle.numbers.specs.Flat.{flatOf}
 use Rattle.accept.specs.Whole.{acceptOf}
 use Rattle.writer.specs.Text.{fieldText, fieldsText, rowText, hereText, textFrom, textOf}
 use Rattle.writer.specs.Write.{Put, answerTo, writtenOf, bytesOf}
@@ -36,17 +36,17 @@ module _ (form place n j : ℕ) (v : List ℕ) where
       rw e (sym (append-assoc (markOf j) (fieldText form (getD v (place + j) 0)) (fieldsText form place (n - (j + 1)) (j + 1) v)))
 
 module _ (v : List ℕ) (row : ℕ) where
-  pub text-over : 45 ≤ row → textFrom v (45 - row) row ≡ []
+  pub text-over : rowCount ≤ row → textFrom v (rowCount - row) row ≡ []
   unfolding textFrom
-  text-over h = let e : 45 - row ≡ 0 = omega arith in rw e
+  text-over h = let e : rowCount - row ≡ 0 = omega arith in rw e
 
-  pub text-absent : row < 45 → present v row ≡ false → textFrom v (45 - row) row ≡ textFrom v (45 - (row + 1)) (row + 1)
+  pub text-absent : row < rowCount → present v row ≡ false → textFrom v (rowCount - row) row ≡ textFrom v (rowCount - (row + 1)) (row + 1)
   unfolding textFrom hereText pick
-  text-absent h a = let e : 45 - row ≡ suc (45 - (row + 1)) = omega arith in rw (e, a)
+  text-absent h a = let e : rowCount - row ≡ suc (rowCount - (row + 1)) = omega arith in rw (e, a)
 
-  pub text-next : row < 45 → present v row ≡ true → textFrom v (45 - row) row ≡ rowText row v ++ textFrom v (45 - (row + 1)) (row + 1)
+  pub text-next : row < rowCount → present v row ≡ true → textFrom v (rowCount - row) row ≡ rowText row v ++ textFrom v (rowCount - (row + 1)) (row + 1)
   unfolding textFrom hereText pick
-  text-next h a = let e : 45 - row ≡ suc (45 - (row + 1)) = omega arith in rw (e, a)
+  text-next h a = let e : rowCount - row ≡ suc (rowCount - (row + 1)) = omega arith in rw (e, a)
 
 -- what writing the sheet s to the bytes b comes to, where `accept` answered a and the numbers are v
 module _ (s : Sheet) (b : List ℕ) (a : Answer) (accepted : a ≡ acceptOf s) where
@@ -67,7 +67,7 @@ module _ (s : Sheet) (b : List ℕ) (a : Answer) (accepted : a ≡ acceptOf s) w
     room : orElse (acceptOf s) (unless (leb (length (textOf s)) (length b)) NoRoom 0) ≡ unless (leb (length (textOf s)) (length b)) NoRoom 0
     room = ap (λ (x : Answer). orElse x (unless (leb (length (textOf s)) (length b)) NoRoom 0)) (sym accepted) ∙ fine-or a _ fine
 
-    pub write-long : {old new : List ℕ} {r : ℕ} → Put old new 0 r (textFrom v 45 0) → length b < r
+    pub write-long : {old new : List ℕ} {r : ℕ} → Put old new 0 r (textFrom v rowCount 0) → length b < r
         → Outcome (record { answer = Refused NoRoom 0; length = 0 }) b
     unfolding answerTo
     write-long p h =
@@ -75,8 +75,8 @@ module _ (s : Sheet) (b : List ℕ) (a : Answer) (accepted : a ≡ acceptOf s) w
         let short : length b < length (textOf s) = omega (arith, q .place) in
         refused-with (Refused NoRoom 0) (room ∙ fails _ _ _ (lt-leb _ _ short)) refl
 
-    pub write-done : {old new : List ℕ} {n : ℕ} → Put old new 0 n (textFrom v 45 0) → n ≤ length b
-        → {out : List ℕ} {r : ℕ} → Put b out 0 r (textFrom v 45 0) → Outcome (record { answer = Fine; length = r }) out
+    pub write-done : {old new : List ℕ} {n : ℕ} → Put old new 0 n (textFrom v rowCount 0) → n ≤ length b
+        → {out : List ℕ} {r : ℕ} → Put b out 0 r (textFrom v rowCount 0) → Outcome (record { answer = Fine; length = r }) out
     unfolding writtenOf bytesOf answerTo
     write-done p₀ h p =
         let q₀ = rw flat at p₀ in

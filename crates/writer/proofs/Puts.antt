@@ -6,7 +6,7 @@ use native.Mathlib.Omega.{arith}
 use native.Mathlib.Nat.{add-zero}
 use lib.ListN.{length, set, length-append}
 use lib.Seq.{set-out, length-sets}
-use Rattle.rows.proofs.Numbers.{sets-then}
+use Rattle.numbers.proofs.Numbers.{sets-then}
 use Rattle.writer.specs.Write.{Put}
 
 module _ {old new : List ℕ} {at r : ℕ} {t : List ℕ} where

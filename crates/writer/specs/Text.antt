@@ -1,13 +1,13 @@
 -- The text of a sheet: for each row of the table that the sheet has, its key, its numbers and a line feed.
 use Prim.Native.Nat.{ℕ, zero, suc, _+_, _-_, _%_}
 use mathlib.Core.List.{List, [], _++_}
-use lib.ListN.{length, getD}
+use lib.ListN.{getD}
 use lib.Dec.{ltb, eqb}
 use Rattle.units.specs.Numbers.{pick}
 use Rattle.sheet.specs.declared.Sheet.{Sheet}
-use Rattle.rows.specs.Table.{worded, signed, keyOf, formOf, placeOf, widthOf, present}
+use Rattle.rows.specs.Table.{rowCount, worded, signed, keyOf, formOf, placeOf, widthOf, present}
 use Rattle.rows.specs.Marks.{markOf, minus, lineFeed, wordOf}
-use Rattle.rows.specs.Flat.{flatOf}
+use Rattle.numbers.specs.Flat.{flatOf}
 use Rattle.writer.specs.Digits.{digits}
 
 -- a number's last six digits, which are all that one in any range has
@@ -39,23 +39,4 @@ textFrom v zero row = []
 textFrom v (suc n) row = hereText row v ++ textFrom v n (row + 1)
 
 abbrev pub textOf : Sheet → List ℕ
-textOf s = textFrom (flatOf s) 45 0
-
--- ---- how long it can be: a number has at most 6 digits, a word 4 letters, a grade a sign more
-
-unfoldable pub longestField : ℕ → ℕ
-longestField form = pick (eqb form worded) 4 (pick (eqb form signed) 7 6)
-
-unfoldable pub longestFields : ℕ → ℕ → ℕ
-longestFields form zero = 0
-longestFields form (suc n) = 1 + longestField form + longestFields form n
-
-abbrev pub longestRow : ℕ → ℕ
-longestRow row = length (keyOf row) + longestFields (formOf row) (widthOf row) + 1
-
-unfoldable pub longestFrom : ℕ → ℕ → ℕ
-longestFrom zero row = 0
-longestFrom (suc n) row = longestRow row + longestFrom n (row + 1)
-
-abbrev pub longest : ℕ
-longest = longestFrom 45 0
+textOf s = textFrom (flatOf s) rowCount 0

@@ -2,12 +2,14 @@
 ghost use mathlib.Core.Path.{_≡_};
 ghost use mathlib.Core.List.{[], _∷_};
 ghost use Prim.Native.Nat.{_+_, _≤_, _<_};
-ghost use lib.ListN.{length};
-ghost use Rattle.rows.specs.Table.{keyOf};
+ghost use lib.ListN.{length, take};
+ghost use Rattle.rows.specs.Table.{rowCount, numberCount};
 ghost use Rattle.rows.specs.Marks.{markOf, wordOf};
 ghost use Rattle.writer.specs.Digits.{digits};
 ghost use Rattle.writer.specs.Text.{signedText, fieldText, fieldsText, rowText, textFrom};
 ghost use Rattle.writer.specs.Write.{Put, writtenOf, bytesOf};
+use rows::NUMBERS;
+use rows::ROWS;
 use sheet::Answer;
 use sheet::Refusal;
 use sheet::Sheet;
@@ -89,8 +91,8 @@ fn put_field(out: &mut [u8], at: usize, form: usize, x: u32) -> usize
     ensures { λ r. ⌜ Put (now (out .entry)) (now (out .exit)) at r (fieldText form x) ⌝ }
 {
     match form {
-        1 => put_vehicle(out, at, x),
-        2 => put_signed(out, at, x),
+        rows::WORDED => put_vehicle(out, at, x),
+        rows::SIGNED => put_signed(out, at, x),
         _ => put_number(out, at, x % 1000000),
     }
 }
@@ -107,14 +109,12 @@ fn put_mark(out: &mut [u8], at: usize, j: usize) -> usize
     }
 }
 
-fn put_key(out: &mut [u8], at: usize, row: usize) -> usize
-    requires { ⌜ at ≤ 9900 ⌝ }
-    ensures { λ r. ⌜ Put (now (out .entry)) (now (out .exit)) at r (keyOf row) ⌝ }
+// The first n letters of a key.
+fn put_key(out: &mut [u8], at: usize, letters: [u8; 8], n: usize) -> usize
+    requires { ⌜ (at ≤ 9900) × (n ≤ 8) ⌝ }
+    ensures { λ r. ⌜ Put (now (out .entry)) (now (out .exit)) at r (take n letters) ⌝ }
 {
-    let keys = rows::KEYS;
-    let start = rows::key_start(row);
-    let end = rows::key_end(row);
-    put_word(out, at, &keys[start..end])
+    put_word(out, at, &letters[0..n])
 }
 
 // n numbers of a line, which stand from a place on.
@@ -124,9 +124,9 @@ fn put_fields(
     form: usize,
     place: usize,
     n: usize,
-    numbers: &[u32; 118],
+    numbers: &[u32; NUMBERS],
 ) -> usize
-    requires { ⌜ (place + n ≤ 118) × (at ≤ 9000) ⌝ }
+    requires { ⌜ (place + n ≤ numberCount) × (at ≤ 9000) ⌝ }
     ensures { λ r. ⌜ Put (now (out .entry)) (now (out .exit)) at r (fieldsText form place n 0 (now (numbers .entry))) ⌝ }
 {
     let mut p = at;
@@ -141,25 +141,27 @@ fn put_fields(
 }
 
 // The line of a row.
-fn put_line(out: &mut [u8], at: usize, row: usize, numbers: &[u32; 118]) -> usize
-    requires { ⌜ (row < 45) × (at ≤ 8000) ⌝ }
+fn put_line(out: &mut [u8], at: usize, row: usize, numbers: &[u32; NUMBERS]) -> usize
+    requires { ⌜ (row < rowCount) × (at ≤ 8000) ⌝ }
     ensures { λ r. ⌜ Put (now (out .entry)) (now (out .exit)) at r (rowText row (now (numbers .entry))) ⌝ }
 {
-    let form = rows::form(row);
+    let facts = rows::facts(row);
+    let letters = facts.0;
+    let form = facts.2;
     let place = rows::place(row);
     let n = rows::width(row);
-    let p = put_key(out, at, row);
+    let p = put_key(out, at, letters, facts.1);
     let q = put_fields(out, p, form, place, n, numbers);
     put(out, q, 10)
 }
 
 // All lines.
-fn put_lines(out: &mut [u8], numbers: &[u32; 118]) -> usize
-    ensures { λ r. ⌜ Put (now (out .entry)) (now (out .exit)) 0 r (textFrom (now (numbers .entry)) 45 0) ⌝ }
+fn put_lines(out: &mut [u8], numbers: &[u32; NUMBERS]) -> usize
+    ensures { λ r. ⌜ Put (now (out .entry)) (now (out .exit)) 0 r (textFrom (now (numbers .entry)) rowCount 0) ⌝ }
 {
     let mut p: usize = 0;
     let mut row: usize = 0;
-    while row < 45 {
+    while row < ROWS {
         if rows::present(numbers, row) {
             p = put_line(out, p, row, numbers);
             row += 1;
@@ -176,7 +178,7 @@ pub fn write(sheet: Sheet, out: &mut [u8]) -> Written
 {
     let answer = accept::accept(sheet);
     if sheet::is_fine(answer) {
-        let numbers = rows::flat(sheet);
+        let numbers = numbers::flat(sheet);
         let needed = put_lines(&mut out[0..0], &numbers);
         if out.len() < needed {
             return Written {

@@ -1,6 +1,7 @@
 -- `reader::lines` meets its contract: at each turn the rows left are read as all are. Assumes nothing.
 use Prim.Native.Nat.{_+_, _≤_, _-_}
 use mathlib.Core.Path.{_≡_, refl, sym, _∙_}
+use Rattle.rows.specs.Table.{rowCount}
 use Rattle.reader.specs.Read.{step, linesFrom}
 use Rattle.reader.proofs.Cases.{lines-end, lines-absent, lines-bad, lines-step}
 use borrow.Author.Needs.{needs}
@@ -9,10 +10,10 @@ use Rattle.reader.proofs.lines.Statement.{statement}
 use Rattle.reader.proofs.lines.Tie as tie
 
 abbrev Inv-loop : tie.InvT-loop
-Inv-loop s v₀ at₀ number₀ row₀ v at number row = (row ≤ 45) × (number ≤ row + 1) × (linesFrom s (45 - row) row number at v ≡ linesFrom s 45 0 1 0 v₀)
+Inv-loop s v₀ at₀ number₀ row₀ v at number row = (row ≤ rowCount) × (number ≤ row + 1) × (linesFrom s (rowCount - row) row number at v ≡ linesFrom s rowCount 0 1 0 v₀)
 
 abbrev μ-loop : tie.MeasureT-loop
-μ-loop s v₀ at₀ number₀ row₀ v at number row = 45 - row
+μ-loop s v₀ at₀ number₀ row₀ v at number row = rowCount - row
 
 loop-holds : tie.Need-loop-holds Inv-loop μ-loop
 loop-holds c =

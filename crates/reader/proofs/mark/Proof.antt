@@ -20,12 +20,12 @@ after-requires-2 : tie.Need-after-requires-2
 after-requires-2 c κs = search needs
 
 returns : tie.Need-returns
-unfolding markOf bytes pick
+unfolding markOf pick
 returns c =
     rw (lt-ltb _ _ (c .before .before .if1 .taken)) (c .after .ensures)
 
 returns-2 : tie.Need-returns-2
-unfolding markOf bytes pick
+unfolding markOf pick
 returns-2 c =
     rw (le-ltb _ _ (c .before .before .if1 .left)) (c .after2 .ensures)
 

@@ -20,7 +20,7 @@ returns c =
 returns-2 : tie.Need-returns-2
 unfolding reply
 returns-2 c =
-    pick-not _ _ _ _ (sym (c .before .before .is-fine .ensures) ∙ c .before .if1 .left) (λ i. record { answer = c .before .before .before .args .answer; sheet = c .zero-sheet .ensures i })
+    pick-not _ _ _ _ (sym (c .before .before .is-fine .ensures) ∙ c .before .if1 .left) cc
 
 pub reply-spec : {M : Type 1} → statement M
 reply-spec = tie.close (tie.spec is-fine-requires zero-sheet-requires returns returns-2)

@@ -49,27 +49,27 @@ sub-t20 c =
     omega (arith, number-small _ _ _ _ (sym (c .before .before .before .before .number2 .ensures) ∙ c .before .before .v2 .given .1))
 
 returns : tie.Need-returns
-unfolding signedAt bytes
+unfolding signedAt
 returns c =
     rw (sym (c .before .before .before .before .before .after .ensures) ∙ c .before .before .before .enum-told .given .1, sym (c .before .before .number .ensures) ∙ c .enum-told2 .given .1)
 
 returns-2 : tie.Need-returns-2
-unfolding signedAt bytes
+unfolding signedAt
 returns-2 c =
     rw (sym (c .before .before .before .before .before .before .after .ensures) ∙ c .before .before .before .before .enum-told .given .1, sym (c .before .before .before .number .ensures) ∙ c .before .v .given .1)
 
 returns-3 : tie.Need-returns-3
-unfolding signedAt bytes
+unfolding signedAt
 returns-3 c =
     rw (sym (c .before .before .before .before .before .before .after .ensures) ∙ c .before .before .before .before .p .given .1, sym (c .before .before .number2 .ensures) ∙ c .enum-told3 .given .1)
 
 returns-4 : tie.Need-returns-4
-unfolding signedAt bytes pick
+unfolding signedAt pick
 returns-4 c =
     rw (sym (c .before .before .before .before .before .before .before .before .after .ensures) ∙ c .before .before .before .before .before .before .p .given .1, sym (c .before .before .before .before .number2 .ensures) ∙ c .before .before .v2 .given .1, lt-ltb _ _ (c .if1 .taken))
 
 returns-5 : tie.Need-returns-5
-unfolding signedAt bytes pick
+unfolding signedAt pick
 returns-5 c =
     rw (sym (c .before .before .before .before .before .before .before .before .after .ensures) ∙ c .before .before .before .before .before .before .p .given .1, sym (c .before .before .before .before .number2 .ensures) ∙ c .before .before .v2 .given .1, le-ltb _ _ (c .if1 .left))
 

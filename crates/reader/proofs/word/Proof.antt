@@ -31,7 +31,7 @@ named-requires-4 : tie.Need-named-requires-4
 named-requires-4 c κs = search needs
 
 returns : tie.Need-returns
-unfolding wordAt words bytes
+unfolding wordAt words
 returns c =
     rw (← (c .before .before .before .before .before .before .named .ensures), ← (c .before .before .before .before .named2 .ensures), ← (c .before .before .named3 .ensures)) (c .named4 .ensures)
 

@@ -15,16 +15,16 @@ returns c =
 mul-result : tie.Need-mul-result
 mul-result c = search needs
 
-sub-result : tie.Need-sub-result
-sub-result c = search needs
+add-result : tie.Need-add-result
+add-result c = search needs
 
 returns-2 : tie.Need-returns-2
 unfolding placeRule
 returns-2 c =
     place-ruled (c .before .before .args .row) (omega arith) (search steps)
 
-add-result : tie.Need-add-result
-add-result c = search needs
+add-result-2 : tie.Need-add-result-2
+add-result-2 c = search needs
 
 returns-3 : tie.Need-returns-3
 unfolding placeRule
@@ -34,8 +34,8 @@ returns-3 c =
 mul-result-2 : tie.Need-mul-result-2
 mul-result-2 c = search needs
 
-add-result-2 : tie.Need-add-result-2
-add-result-2 c = search needs
+add-result-3 : tie.Need-add-result-3
+add-result-3 c = search needs
 
 returns-4 : tie.Need-returns-4
 unfolding placeRule
@@ -52,11 +52,11 @@ place-spec =
     (tie.spec
     returns
     mul-result
-    sub-result
-    returns-2
     add-result
+    returns-2
+    add-result-2
     returns-3
     mul-result-2
-    add-result-2
+    add-result-3
     returns-4
     returns-5)

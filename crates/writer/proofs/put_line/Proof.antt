@@ -1,15 +1,16 @@
 -- `writer::put_line` meets its contract: the key, the numbers, the line feed. Assumes nothing.
 use Rattle.rows.proofs.Tables.{place-room}
+use Rattle.rows.proofs.Keys.{key-short, facts-key, facts-short, facts-form}
 use Rattle.writer.specs.Text.{rowText}
-use Rattle.writer.proofs.Puts.{put-length, put-then}
-use Rattle.writer.proofs.Lengths.{short-key, short-fields, eight-each}
+use Rattle.writer.proofs.Puts.{put-length, put-same, put-then}
+use Rattle.writer.proofs.Lengths.{short-fields, eight-each}
 use native.Mathlib.Omega.{arith}
 use borrow.Author.Needs.{needs}
 use Rattle.writer.proofs.put_line.Statement.{statement}
 use Rattle.writer.proofs.put_line.Tie as tie
 
-form-requires : tie.Need-form-requires
-form-requires c κs = search needs
+facts-requires : tie.Need-facts-requires
+facts-requires c κs = search needs
 
 place-requires : tie.Need-place-requires
 place-requires c κs = search needs
@@ -18,15 +19,16 @@ width-requires : tie.Need-width-requires
 width-requires c κs = search needs
 
 put-key-requires : tie.Need-put-key-requires
-put-key-requires c κs = search needs
+put-key-requires c κs =
+    (omega (arith, c .before .before .before .before .before .before .pre .1), facts-short (c .before .before .before .before .before .before .args .row) (c .before .before .before .before .facts .result) (c .before .before .before .before .facts .ensures))
 
 put-fields-requires : tie.Need-put-fields-requires
 put-fields-requires c κs =
-    (omega (arith, place-room (c .before .before .before .before .before .before .before .before .before .args .row) (c .before .before .before .before .before .before .before .before .before .pre .0), c .before .before .before .before .before .before .place .ensures, c .before .before .before .before .before .width .ensures), omega (arith, c .before .before .before .put-key .ensures .place, short-key (c .before .before .before .before .before .before .before .before .before .args .row)))
+    let k = put-same (facts-key (c .before .before .before .before .before .before .before .before .before .before .args .row) (c .before .before .before .before .before .before .before .before .facts .result) (c .before .before .before .before .before .before .before .before .facts .ensures)) (c .before .before .before .put-key .ensures) in (omega (arith, place-room (c .before .before .before .before .before .before .before .before .before .before .args .row) (c .before .before .before .before .before .before .before .before .before .before .pre .0), c .before .before .before .before .before .before .place .ensures, c .before .before .before .before .before .width .ensures), omega (arith, c .before .before .before .before .before .before .before .before .before .before .pre .1, k .place, key-short (c .before .before .before .before .before .before .before .before .before .before .args .row)))
 
 put-requires : tie.Need-put-requires
 put-requires c κs =
-    omega (arith, c .before .before .before .before .before .before .before .put-key .ensures .place, short-key (c .before .before .before .before .before .before .before .before .before .before .before .before .before .args .row), c .before .before .before .put-fields .ensures .place, short-fields (c .before .before .before .before .before .before .before .before .before .before .before .form .result) (c .before .before .before .before .before .before .before .before .before .before .place .result) (c .before .before .before .before .before .before .before .before .before .width .result) 0 (c .before .before .before .before .before .before .before .before .before .before .before .before .before .args .numbers .now), eight-each (c .before .before .before .before .before .before .before .before .before .before .before .form .result) (c .before .before .before .before .before .before .before .before .before .width .result), place-room (c .before .before .before .before .before .before .before .before .before .before .before .before .before .args .row) (c .before .before .before .before .before .before .before .before .before .before .before .before .before .pre .0), c .before .before .before .before .before .before .before .before .before .width .ensures)
+    let k = put-same (facts-key (c .before .before .before .before .before .before .before .before .before .before .before .before .before .before .args .row) (c .before .before .before .before .before .before .before .before .before .before .before .before .facts .result) (c .before .before .before .before .before .before .before .before .before .before .before .before .facts .ensures)) (c .before .before .before .before .before .before .before .put-key .ensures) in omega (arith, c .before .before .before .before .before .before .before .before .before .before .before .before .before .before .pre .1, k .place, key-short (c .before .before .before .before .before .before .before .before .before .before .before .before .before .before .args .row), c .before .before .before .put-fields .ensures .place, short-fields (c .before .before .before .before .before .before .before .before .before .before .before .before .facts .result .2) (c .before .before .before .before .before .before .before .before .before .before .place .result) (c .before .before .before .before .before .before .before .before .before .width .result) 0 (c .before .before .before .before .before .before .before .before .before .before .before .before .before .before .args .numbers .now), eight-each (c .before .before .before .before .before .before .before .before .before .before .before .before .facts .result .2) (c .before .before .before .before .before .before .before .before .before .width .result), place-room (c .before .before .before .before .before .before .before .before .before .before .before .before .before .before .args .row) (c .before .before .before .before .before .before .before .before .before .before .before .before .before .before .pre .0), c .before .before .before .before .before .before .before .before .before .width .ensures)
 
 same-length : tie.Need-same-length
 same-length c =
@@ -35,13 +37,14 @@ same-length c =
 returns : tie.Need-returns
 unfolding rowText
 returns c =
-    rw (← (c .before .before .before .before .before .before .before .before .before .before .before .before .before .before .form .ensures), ← (c .before .before .before .before .before .before .before .before .before .before .before .before .before .place .ensures), ← (c .before .before .before .before .before .before .before .before .before .before .before .before .width .ensures)) (put-then (c .before .before .before .before .before .before .before .before .before .before .put-key .ensures) (put-then (c .before .before .before .before .before .before .put-fields .ensures) (c .before .before .put .ensures)))
+    let k = put-same (facts-key (c .before .before .before .before .before .before .before .before .before .before .before .before .before .before .before .before .before .args .row) (c .before .before .before .before .before .before .before .before .before .before .before .before .before .before .before .facts .result) (c .before .before .before .before .before .before .before .before .before .before .before .before .before .before .before .facts .ensures)) (c .before .before .before .before .before .before .before .before .before .before .put-key .ensures) in
+    rw (← (facts-form (c .before .before .before .before .before .before .before .before .before .before .before .before .before .before .before .before .before .args .row) (c .before .before .before .before .before .before .before .before .before .before .before .before .before .before .before .facts .result) (c .before .before .before .before .before .before .before .before .before .before .before .before .before .before .before .facts .ensures)), ← (c .before .before .before .before .before .before .before .before .before .before .before .before .before .place .ensures), ← (c .before .before .before .before .before .before .before .before .before .before .before .before .width .ensures)) (put-then k (put-then (c .before .before .before .before .before .before .put-fields .ensures) (c .before .before .put .ensures)))
 
 pub put-line-spec : {M : Type 1} → statement M
 put-line-spec =
     tie.close
     (tie.spec
-    form-requires
+    facts-requires
     place-requires
     width-requires
     put-key-requires

@@ -3,7 +3,8 @@ use mathlib.Core.Path.{sym, _∙_}
 use Prim.Native.Nat.{_-_, _≤_}
 use Rattle.writer.specs.Text.{rowText, textFrom}
 use Rattle.writer.proofs.Puts.{Doing, start, next, end, where-now, doing-length}
-use Rattle.writer.proofs.Lengths.{short-text, longest-is}
+use Rattle.rows.specs.Table.{rowCount}
+use Rattle.writer.proofs.Lengths.{short-text, longest-small}
 use Rattle.writer.proofs.Pieces.{text-over, text-absent, text-next}
 use borrow.Author.Needs.{needs}
 use native.Mathlib.Omega.{arith}
@@ -11,10 +12,10 @@ use Rattle.writer.proofs.put_lines.Statement.{statement}
 use Rattle.writer.proofs.put_lines.Tie as tie
 
 abbrev Inv-loop : tie.InvT-loop
-Inv-loop out₀ numbers p₀ row₀ out p row = (row ≤ 45) × Doing out₀ out 0 p (textFrom numbers (45 - row) row) (textFrom numbers 45 0)
+Inv-loop out₀ numbers p₀ row₀ out p row = (row ≤ rowCount) × Doing out₀ out 0 p (textFrom numbers (rowCount - row) row) (textFrom numbers rowCount 0)
 
 abbrev μ-loop : tie.MeasureT-loop
-μ-loop out₀ numbers p₀ row₀ out p row = 45 - row
+μ-loop out₀ numbers p₀ row₀ out p row = rowCount - row
 
 loop-holds : tie.Need-loop-holds Inv-loop μ-loop
 loop-holds c =
@@ -25,7 +26,7 @@ present-requires c κs = search needs
 
 put-line-requires : tie.Need-put-line-requires Inv-loop μ-loop
 put-line-requires c κs =
-    let h = where-now _ (c .before .before .before .before .loop .inv .1) in (omega arith, omega (arith, short-text (c .before .before .before .before .before .before .args .numbers .now) 45 0, longest-is))
+    let h = where-now _ (c .before .before .before .before .loop .inv .1) in (omega arith, omega (arith, short-text (c .before .before .before .before .before .before .args .numbers .now) rowCount 0, longest-small))
 
 add-row : tie.Need-add-row Inv-loop μ-loop
 add-row c = search needs

@@ -19,7 +19,7 @@ same-length c =
     put-length (c .before .before .put .ensures)
 
 returns : tie.Need-returns
-unfolding markOf bytes pick
+unfolding markOf pick
 returns c =
     rw (lt-ltb _ _ (c .before .before .before .before .if1 .taken)) (c .before .before .put .ensures)
 
@@ -28,7 +28,7 @@ same-length-2 c =
     put-length (c .before .before .put2 .ensures)
 
 returns-2 : tie.Need-returns-2
-unfolding markOf bytes pick
+unfolding markOf pick
 returns-2 c =
     rw (le-ltb _ _ (c .before .before .before .before .if1 .left)) (c .before .before .put2 .ensures)
 

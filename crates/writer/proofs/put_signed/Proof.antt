@@ -27,7 +27,7 @@ same-length c =
     put-length (put-then (c .before .before .before .before .before .before .put .ensures) (c .before .before .put-number .ensures))
 
 returns : tie.Need-returns
-unfolding signedText pick bytes
+unfolding signedText pick
 returns c =
     rw (lt-ltb _ _ (c .before .before .before .before .before .before .before .before .if1 .taken)) (put-then (c .before .before .before .before .before .before .put .ensures) (c .before .before .put-number .ensures))
 

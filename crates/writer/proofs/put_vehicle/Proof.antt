@@ -40,7 +40,7 @@ same-length c =
     put-length (c .before .before .put-word .ensures)
 
 returns : tie.Need-returns
-unfolding words bytes
+unfolding words
 returns c =
     rw (c .before .before .before .before .before .match .keys1) (c .before .before .put-word .ensures)
 
@@ -49,7 +49,7 @@ same-length-2 c =
     put-length (c .before .before .put-word2 .ensures)
 
 returns-2 : tie.Need-returns-2
-unfolding words bytes
+unfolding words
 returns-2 c =
     rw (c .before .before .before .before .before .match .keys2) (c .before .before .put-word2 .ensures)
 
@@ -58,7 +58,7 @@ same-length-3 c =
     put-length (c .before .before .put-word3 .ensures)
 
 returns-3 : tie.Need-returns-3
-unfolding words bytes
+unfolding words
 returns-3 c =
     rw (c .before .before .before .before .before .match .keys3) (c .before .before .put-word3 .ensures)
 
@@ -67,7 +67,7 @@ same-length-4 c =
     put-length (c .before .before .put-word4 .ensures)
 
 returns-4 : tie.Need-returns-4
-unfolding words bytes
+unfolding words
 returns-4 c =
     rw (c .before .before .before .before .before .match .keys4) (c .before .before .put-word4 .ensures)
 

@@ -1,0 +1,6 @@
+pub mod Grades
+pub mod Numbers
+pub mod Entries
+pub mod Stored
+pub mod Again
+pub mod Fixed
