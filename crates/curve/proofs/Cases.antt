@@ -1,16 +1,15 @@
--- P3 to P8, document 002's example and the sample sheet's level times, each computed by the definitions. Assumes nothing.
-use lib.Dec.{T}
+-- The cases of the level time and of the time on a grade, each computed by the definitions. Assumes nothing.
+use mathlib.Core.Path.{refl}
 use Rattle.units.specs.Numbers.{up, pick}
-use Rattle.units.proofs.Tested.{all}
-use Rattle.factor.specs.Table.{table, entryOf}
+use Rattle.table.specs.Table.{table, entryOf}
 use Rattle.factor.specs.Factor.{climb, placeOn, rowOf, columnOf, mixOf, lineOf, tableOf, factorOf}
 use Rattle.curve.specs.Curve.{betweenOf, levelFrom, levelOf, gradedOf}
-use Rattle.curve.specs.Cases.{gradedCases, rightGraded, samplePoints, levelCases, rightLevel}
+use Rattle.curve.specs.Cases.{GradedCases, samplePoints, LevelCases}
 
-pub every-graded : T (all rightGraded gradedCases)
-unfolding gradedCases gradedOf up pick factorOf climb tableOf lineOf mixOf entryOf table columnOf rowOf placeOn
-every-graded = tt
+pub graded-cases : GradedCases
+unfolding gradedOf up pick factorOf climb tableOf lineOf mixOf entryOf table columnOf rowOf placeOn
+graded-cases = (refl, refl, refl, refl, refl)
 
-pub every-level : T (all rightLevel levelCases)
-unfolding levelCases samplePoints levelOf levelFrom betweenOf up pick
-every-level = tt
+pub level-cases : LevelCases
+unfolding samplePoints levelOf levelFrom betweenOf up pick
+level-cases = (refl, refl, refl, refl, refl, refl)

@@ -1,16 +1,8 @@
 -- The contract of each public function of the crate fixes the reply and asks nothing: it is an equation with a definition. Assumes nothing.
 use mathlib.Core.Path.{sym, _∙_, refl}
 use Rattle.units.specs.Fixed.{Fixes, AsksNothing}
-use Rattle.curve.proofs.level.Kinds as level-kinds
-use Rattle.curve.proofs.level.Reads as level-reads
 use Rattle.curve.proofs.acceleration.Kinds as acceleration-kinds
 use Rattle.curve.proofs.acceleration.Reads as acceleration-reads
-
-pub level-fixed : Fixes 0 level-kinds.ps level-kinds.r level-reads.Learnt
-level-fixed κs a z z′ w w′ p q = (p ∙ sym q, refl)
-
-pub level-open : AsksNothing 0 level-kinds.ps level-reads.Asked
-level-open κs a = tt
 
 pub acceleration-fixed : Fixes 0 acceleration-kinds.ps acceleration-kinds.r acceleration-reads.Learnt
 acceleration-fixed κs a z z′ w w′ p q = (p ∙ sym q, refl)

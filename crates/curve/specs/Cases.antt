@@ -1,9 +1,8 @@
--- "Both sides of each edge", P3 to P8 and document 002's example, and the level times of "One sheet, whole": what is asked of each, and what it gives.
+-- Cases of the level time and of the time on a grade: what is asked of each, and what it gives. P3 to P8 stand with the lines.
 use Prim.Native.Nat.{ℕ}
-use mathlib.Core.Bool.{Bool}
+use mathlib.Core.Path.{_≡_}
 use mathlib.Core.List.{List, [], _∷_}
-use lib.Dec.{eqb}
-use lib.IntN.{ℤ, pos}
+use lib.IntN.{ℤ, pos, negsuc}
 use Rattle.units.specs.Numbers.{feet, tenths}
 use Rattle.sheet.specs.declared.Point.{Point}
 use Rattle.sheet.specs.declared.Vehicle.{Vehicle}
@@ -11,61 +10,31 @@ use Rattle.sheet.specs.declared.Vehicle.the-variants.{Car, Su, Bus, Wb50}
 use Rattle.factor.specs.Factor.{factorOf}
 use Rattle.curve.specs.Curve.{levelOf, gradedOf}
 
-pub record GradedCase : Type 0 where
-  pub vehicle : Vehicle
-  pub distance : ℕ
-  pub grade : ℤ
-  pub level : ℕ
-  pub gives : ℕ
+-- a vehicle, over a distance, on a grade, whose level time is so long: what its time is
+abbrev pub Graded : Vehicle → ℕ → ℤ → ℕ → ℕ → Type 0
+Graded v d g level gives = gradedOf (factorOf v g (feet d)) (tenths level) .0 ≡ gives
 
-abbrev case : Vehicle → ℕ → ℤ → ℕ → ℕ → GradedCase
-case v d g t r = record { vehicle = v; distance = d; grade = g; level = t; gives = r }
-
-unfoldable pub gradedCases : List GradedCase
-gradedCases =
-    -- P3 "WB-50, 350 ft, grade 40, level 300 gives 417"
-    case Wb50 350 (pos 40) 300 417
-    -- P4 "340 ft, 40, level 250: factor 1.386, gives 347"
-    ∷ case Wb50 340 (pos 40) 250 347
-    -- P5 "350 ft, 30, level 300: 381"
-    ∷ case Wb50 350 (pos 30) 300 381
-    -- P6 "350 ft, 10, level 200: 215, and grade 9 gives 200"
-    ∷ case Wb50 350 (pos 10) 200 215
-    ∷ case Wb50 350 (pos 9) 200 200
-    -- P7 "bus, 400 ft, 15, level 200: 206"
-    ∷ case Bus 400 (pos 15) 200 206
-    -- P8 "SU, 400 ft, 20, level 200: 200, and 30: 215"
-    ∷ case Su 400 (pos 20) 200 200
-    ∷ case Su 400 (pos 30) 200 215
-    -- "The factor is 1 for a car"
-    ∷ case Car 400 (pos 80) 200 200
+abbrev pub GradedCases : Type 0
+GradedCases =
     -- "Document 002's 80 ft example": 12.2 times 1.302, where its rounded factor 1.30 gives the same tenth
-    ∷ case Wb50 80 (pos 40) 122 159
-    ∷ []
-
-abbrev pub rightGraded : GradedCase → Bool
-rightGraded c = eqb (gradedOf (factorOf (c .vehicle) (c .grade) (feet (c .distance))) (tenths (c .level)) .0) (c .gives)
-
-pub record LevelCase : Type 0 where
-  pub distance : ℕ
-  pub gives : ℕ
+    Graded Wb50 80 (pos 40) 122 159
+    -- by hand from Table 628-B: 12.5 times 1.084 is 13.55, up; 12.5 times 1.136 is 14.2, and stays
+    × Graded Bus 110 (pos 30) 125 136
+    × Graded Su 60 (pos 50) 125 142
+    -- "The factor is 1 for a car, and for any grade below 10": also for a downhill of 4 percent
+    × Graded Car 400 (pos 80) 200 200
+    × Graded Wb50 350 (negsuc 39) 200 200
 
 abbrev point : ℕ → ℕ → Point
 point d t = record { feet = d; tenths = t }
 
--- the points of "One sheet, whole", and the times over lines 20, 23 and 48 and at the points
+-- the points of "One sheet, whole"
 unfoldable pub samplePoints : List Point
 samplePoints = point 0 0 ∷ point 100 140 ∷ point 400 320 ∷ []
 
-unfoldable pub levelCases : List LevelCase
-levelCases =
-    record { distance = 0; gives = 0 }
-    ∷ record { distance = 55; gives = 77 }
-    ∷ record { distance = 96; gives = 135 }
-    ∷ record { distance = 100; gives = 140 }
-    ∷ record { distance = 156; gives = 174 }
-    ∷ record { distance = 400; gives = 320 }
-    ∷ []
+abbrev pub Level : ℕ → ℕ → Type 0
+Level d gives = levelOf samplePoints (feet d) .0 ≡ gives
 
-abbrev pub rightLevel : LevelCase → Bool
-rightLevel c = eqb (levelOf samplePoints (feet (c .distance)) .0) (c .gives)
+-- the times over lines 20, 23 and 48 of that sheet, and at its points
+abbrev pub LevelCases : Type 0
+LevelCases = Level 0 0 × Level 55 77 × Level 96 135 × Level 100 140 × Level 156 174 × Level 400 320

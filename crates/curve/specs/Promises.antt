@@ -1,14 +1,16 @@
 -- What is promised of the level time and of the time on a grade, for a reader of the definitions.
 use mathlib.Core.Path.{_≡_}
+use mathlib.Core.Bool.{true}
 use mathlib.Core.List.{List, [], _∷_}
 use Prim.Native.Nat.{ℕ, _+_, _-_, _*_, _<_, _≤_}
-use lib.IntN.{ℤ}
+use lib.IntN.{ℤ, pos}
+use lib.Signed.{ltZ}
 use Rattle.units.specs.declared.Feet.{Feet}
 use Rattle.units.specs.declared.Tenths.{Tenths}
 use Rattle.sheet.specs.declared.Point.{Point}
 use Rattle.sheet.specs.declared.Vehicle.{Vehicle}
 use Rattle.sheet.specs.declared.Vehicle.the-variants.{Car}
-use Rattle.factor.specs.Factor.{climb, factorOf}
+use Rattle.factor.specs.Factor.{factorOf}
 use Rattle.curve.specs.Curve.{levelOf, gradedOf, accelerationOf}
 
 -- r is n over d, taken up: the least whole number that is not below it
@@ -55,13 +57,14 @@ AccelerationTakenUp =
     let f = factorOf v g d in
     TakenUp (levelOf ps d .0 * f .over) (f .under) (accelerationOf ps v g d .0)
 
--- "The factor is 1 for a car, and for any grade below 10"
+-- "The factor is 1 for a car"
 abbrev pub LevelForCars : Type 0
 LevelForCars = (ps : List Point) (g : ℤ) (d : Feet) → accelerationOf ps Car g d ≡ levelOf ps d
 
+-- "and for any grade below 10", level and downhill among them
 abbrev pub LevelBelowTen : Type 0
 LevelBelowTen =
-    (ps : List Point) (v : Vehicle) (g : ℤ) (d : Feet) → climb g < 10 → accelerationOf ps v g d ≡ levelOf ps d
+    (ps : List Point) (v : Vehicle) (g : ℤ) (d : Feet) → ltZ g (pos 10) ≡ true → accelerationOf ps v g d ≡ levelOf ps d
 
 -- every point's time is at most b
 abbrev pub TimesWithin : ℕ → List Point → Type 0

@@ -42,12 +42,6 @@ fn level_time(points: [Point; 16], count: u32, distance: Feet) -> Tenths
     Tenths(p.tenths as u64)
 }
 
-pub fn level(points: [Point; 16], count: u32, distance: Feet) -> Tenths
-    ensures { λ r. ⌜ r ≡ levelOf (take count points) distance ⌝ }
-{
-    level_time(points, count, distance)
-}
-
 // A level time on a grade: times the factor, taken up.
 fn graded(factor: Fraction, time: Tenths) -> Tenths
     requires { ⌜ (time .0 ≤ 4294967295) × (factor .over ≤ 100000) ⌝ }
@@ -56,6 +50,7 @@ fn graded(factor: Fraction, time: Tenths) -> Tenths
     Tenths(units::div_up(time.0 * factor.over, factor.under))
 }
 
+// The time to accelerate over a distance, on the sheet's one grade.
 pub fn acceleration(
     points: [Point; 16],
     count: u32,

@@ -9,10 +9,10 @@ use Rattle.units.specs.declared.Feet.{Feet}
 use Rattle.sheet.specs.declared.Vehicle.{Vehicle}
 use Rattle.factor.specs.declared.Fraction.{Fraction}
 use Rattle.factor.specs.declared.Place.{Place}
-use Rattle.factor.specs.Table.{entryOf}
+use Rattle.table.specs.Table.{entryOf}
 use Rattle.factor.specs.Factor.{climb, isCar, one, rowOf, columnOf, mixOf, lineOf, tableOf, factorOf, Standing}
 use Rattle.factor.specs.Promises.{FactorFits, FactorNeverBelowOne, FactorNeverAboveTwo}
-use Rattle.factor.proofs.Columns.{small, least}
+use Rattle.table.proofs.Columns.{small, least}
 use Rattle.factor.proofs.Places.{row-stands, column-stands}
 
 -- a mixture of two values is at most the larger and at least the smaller, times the width

@@ -1,10 +1,10 @@
--- P4's factor and document 002's, computed by the definitions: nothing is rounded. Assumes nothing.
+-- Document 002's factor and two worked out by hand, computed by the definitions: nothing is rounded. Assumes nothing.
 use mathlib.Core.Path.{refl}
 use Rattle.units.specs.Numbers.{pick}
-use Rattle.factor.specs.Table.{table, entryOf}
+use Rattle.table.specs.Table.{table, entryOf}
 use Rattle.factor.specs.Factor.{climb, placeOn, rowOf, columnOf, mixOf, lineOf, tableOf, factorOf}
 use Rattle.factor.specs.Promises.{FactorIsExact}
 
 pub exact : FactorIsExact
 unfolding factorOf climb tableOf lineOf mixOf entryOf table columnOf rowOf placeOn pick
-exact = (refl, refl)
+exact = (refl, refl, refl)

@@ -1,5 +1,4 @@
 pub mod Signs
-pub mod Columns
 pub mod Places
 pub mod Bounds
 pub mod Ones

@@ -10,7 +10,7 @@ use Rattle.units.proofs.Tested.{also, also-left, also-right, given, given-then,
 use Rattle.sheet.specs.declared.Vehicle.{Vehicle}
 use Rattle.sheet.specs.declared.Vehicle.the-variants.{Car, Su, Bus, Wb50}
 use Rattle.factor.specs.declared.Place.{Place}
-use Rattle.factor.specs.Factor.{placeOn, rowOf, columnOf, Standing}
+use Rattle.factor.specs.Factor.{placed, placeOn, rowOf, columnOf, Standing}
 
 abbrev pub same : Place → Place → Bool
 same p q = also (eqb (p .step) (q .step)) (also (eqb (p .past) (q .past)) (eqb (p .width) (q .width)))
@@ -30,15 +30,20 @@ agreeing f p q = λ (k : ℕ). given (f k) (same (p k) (q k))
 agree : (f : ℕ → Bool) (p q : ℕ → Place) (n : ℕ) → T (allBelow (agreeing f p q) n) → (k : ℕ) → k < n → T (f k) → p k ≡ q k
 agree f p q n t k h u = same-eq (p k) (q k) (given-then (f k) (same (p k) (q k)) (at (agreeing f p q) n t k h) u)
 
-pub row-low : (d : ℕ) → d ≤ 25 → record { step = 0; past = 0; width = 25 } ≡ rowOf d
+pub row-low : (d : ℕ) → d ≤ 25 → placed 0 0 25 ≡ rowOf d
 unfolding placeOn rowOf pick
-row-low d h = agree (λ (k : ℕ). leb k 25) (λ (k : ℕ). record { step = 0; past = 0; width = 25 }) rowOf 26 tt d (omega arith) (le→leb d 25 h)
+row-low d h = agree (λ (k : ℕ). leb k 25) (λ (k : ℕ). placed 0 0 25) rowOf 26 tt d (omega arith) (le→leb d 25 h)
 
-pub row-high : (d : ℕ) → 25 < d → d ≤ 400 → record { step = (d - 26) / 25; past = (d - 1) % 25 + 1; width = 25 } ≡ rowOf d
+pub row-high : (d : ℕ) → 25 < d → d ≤ 400 → placed ((d - 26) / 25) ((d - 1) % 25 + 1) 25 ≡ rowOf d
 unfolding placeOn rowOf pick
 row-high d l h =
-    agree (λ (k : ℕ). ltb 25 k) (λ (k : ℕ). record { step = (k - 26) / 25; past = (k - 1) % 25 + 1; width = 25 }) rowOf 401 tt d (omega arith)
+    agree (λ (k : ℕ). ltb 25 k) (λ (k : ℕ). placed ((k - 26) / 25) ((k - 1) % 25 + 1) 25) rowOf 401 tt d (omega arith)
     (lt→ltb 25 d l)
+
+-- below 25 ft the place is that of 25 ft
+pub row-held : (d : ℕ) → d ≤ 25 → rowOf d ≡ rowOf 25
+unfolding placeOn rowOf pick
+row-held d h = agree (λ (k : ℕ). leb k 25) rowOf (λ (k : ℕ). rowOf 25) 26 tt d (omega arith) (le→leb d 25 h)
 
 -- a vehicle's columns at every grade up to 80, by any rule that the test passes
 module _ (v : Vehicle) (p : ℕ → Place) where

@@ -1,6 +1,7 @@
 -- What the test of a grade against 0 says of its climb, by the grade's sign. Assumes nothing.
 use mathlib.Core.Path.{_≡_, refl, sym}
 use mathlib.Core.Bool.{true, false}
+use Prim.Native.Nat.{ℕ, _<_}
 use native.Mathlib.Omega.{arith}
 use lib.Dec.{T}
 use lib.IntN.{ℤ, pos, negsuc, natAbs}
@@ -22,3 +23,9 @@ above (negsuc n) e = never (sym e)
 pub nonneg : (z : ℤ) → ltZ z (pos 0) ≡ false → T (nonNeg z)
 nonneg (pos n) e = tt
 nonneg (negsuc n) e = never (sym e)
+
+-- a grade below a bound climbs less than it
+pub climbs-less : (n : ℕ) → 0 < n → (z : ℤ) → ltZ z (pos n) ≡ true → climb z < n
+unfolding climb
+climbs-less n h (pos m) e = ltb-true m n e
+climbs-less n h (negsuc m) e = omega arith

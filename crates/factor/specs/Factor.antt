@@ -10,7 +10,7 @@ use Rattle.sheet.specs.declared.Vehicle.{Vehicle}
 use Rattle.sheet.specs.declared.Vehicle.the-variants.{Car, Su, Bus, Wb50}
 use Rattle.factor.specs.declared.Fraction.{Fraction}
 use Rattle.factor.specs.declared.Place.{Place}
-use Rattle.factor.specs.Table.{entryOf}
+use Rattle.table.specs.Table.{entryOf}
 
 -- "grade tenths of a percent": how much of it is uphill; level and downhill are 0
 unfoldable pub climb : ℤ → ℕ
@@ -26,11 +26,15 @@ isCar Wb50 = false
 abbrev pub one : Fraction
 one = record { over = 1; under = 1 }
 
--- where x stands on a rising scale: after which mark, how far past it, how far the next mark is.
+-- after which mark, how far past it, how far the next mark is
+abbrev pub placed : ℕ → ℕ → ℕ → Place
+placed i past width = record { step = i; past = past; width = width }
+
+-- where x stands on a rising scale.
 -- Before the first mark it stands at the first, past the last at the last. i is the number of the mark a
 unfoldable pub placeOn : ℕ → ℕ → List ℕ → ℕ → Place
-placeOn i a [] x = record { step = i; past = 0; width = 1 }
-placeOn i a (b ∷ bs) x = pick (leb x b) (record { step = i; past = x - a; width = b - a }) (placeOn (i + 1) b bs x)
+placeOn i a [] x = placed i 0 1
+placeOn i a (b ∷ bs) x = pick (leb x b) (placed i (x - a) (b - a)) (placeOn (i + 1) b bs x)
 
 -- "rows every 25 ft from 25 to 400, straight between rows, row 25 below 25 ft"
 unfoldable pub rowOf : ℕ → Place
@@ -68,7 +72,7 @@ factorOf v g d =
 
 -- a scale with a mark every 20, the first, number i, at 0
 abbrev pub twentyOf : ℕ → ℕ → Place
-twentyOf i x = record { step = i + (x - 1) / 20; past = (x - 1) % 20 + 1; width = 20 }
+twentyOf i x = placed (i + (x - 1) / 20) ((x - 1) % 20 + 1) 20
 
 -- a place between two of n marks that are at most w apart
 pub record Standing (w n : ℕ) (p : Place) : Type 0 where

@@ -1,3 +1,2 @@
-pub mod Table
 pub mod Factor
 pub mod Promises

@@ -1,11 +1,9 @@
 // The factor for slower acceleration uphill, by Table 628-B, as an exact fraction.
 ghost use mathlib.Core.Path.{_≡_};
 ghost use Prim.Native.Nat.{_<_, _≤_};
-ghost use Rattle.factor.specs.Factor.{Standing, climb, columnOf, factorOf, isCar, lineOf, mixOf, one, rowOf, tableOf, twentyOf};
+ghost use Rattle.factor.specs.Factor.{Standing, climb, columnOf, factorOf, isCar, lineOf, mixOf, one, placed, rowOf, tableOf, twentyOf};
 use sheet::Vehicle;
 use units::Feet;
-
-mod table;
 
 pub struct Fraction {
     pub over: u64,
@@ -47,23 +45,25 @@ fn uphill(grade: i16) -> u64
     grade as u64
 }
 
-// Rows every 25 ft from 25 to 400.
+fn placed(step: usize, past: u64, width: u64) -> Place
+    ensures { λ r. ⌜ r ≡ placed step past width ⌝ }
+{
+    Place {
+        step: step,
+        past: past,
+        width: width,
+    }
+}
+
+// Rows every 25 ft from 25 to 400; below 25 ft row 25.
 fn row_at(d: u64) -> Place
     requires { ⌜ d ≤ 400 ⌝ }
     ensures { λ r. ⌜ r ≡ rowOf d ⌝ }
 {
     if d <= 25 {
-        return Place {
-            step: 0,
-            past: 0,
-            width: 25,
-        };
+        return placed(0, 0, 25);
     }
-    Place {
-        step: (d - 26) as usize / 25,
-        past: (d - 1) % 25 + 1,
-        width: 25,
-    }
+    placed((d - 26) as usize / 25, (d - 1) % 25 + 1, 25)
 }
 
 // The vehicle's columns.
@@ -72,29 +72,17 @@ fn column_at(vehicle: Vehicle, g: u64) -> Place
     ensures { λ r. ⌜ r ≡ columnOf vehicle g ⌝ }
 {
     match vehicle {
-        Vehicle::Car => Place {
-            step: 0,
-            past: 0,
-            width: 1,
-        },
+        Vehicle::Car => placed(0, 0, 1),
         Vehicle::Su => {
             if g <= 20 {
-                Place {
-                    step: 0,
-                    past: 0,
-                    width: 20,
-                }
+                placed(0, 0, 20)
             } else {
                 every_twenty(0, g - 20)
             }
         }
         Vehicle::Bus => {
             if g <= 20 {
-                Place {
-                    step: 4,
-                    past: g - 10,
-                    width: 10,
-                }
+                placed(4, g - 10, 10)
             } else {
                 every_twenty(5, g - 20)
             }
@@ -108,11 +96,7 @@ fn every_twenty(first: usize, x: u64) -> Place
     requires { ⌜ (first < 14) × (1 ≤ x) × (x ≤ 80) ⌝ }
     ensures { λ r. ⌜ r ≡ twentyOf first x ⌝ }
 {
-    Place {
-        step: first + (x - 1) as usize / 20,
-        past: (x - 1) % 20 + 1,
-        width: 20,
-    }
+    placed(first + (x - 1) as usize / 20, (x - 1) % 20 + 1, 20)
 }
 
 // Straight between two values, times the width of the step.

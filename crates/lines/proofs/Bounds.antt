@@ -5,11 +5,10 @@ use Prim.Native.Nat.{ℕ, _+_, _*_, _≤_, max}
 use native.Mathlib.Nat.{mul-le-mul, div-le-self}
 use native.Mathlib.Omega.{arith}
 use lib.ListN.{take}
-use Rattle.units.proofs.All.{All}
+use Rattle.units.specs.Lists.{All}
 use Rattle.units.proofs.Rounding.{up-le, up-le-self}
 use Rattle.units.specs.declared.Feet.{Feet}
 use Rattle.units.specs.declared.Tenths.{Tenths}
-use Rattle.units.specs.declared.Hundredths.{Hundredths}
 use Rattle.sheet.specs.declared.Sheet.{Sheet}
 use Rattle.sheet.specs.declared.Phase.{Phase}
 use Rattle.sheet.specs.declared.Point.{Point}
@@ -59,9 +58,9 @@ bounds-of s h =
     let ps = take (s .«point_count») (s .points) in
     let times = timed ps (h .points) in
     let start = up-le (s .l18 + s .l19) 2 400 (omega arith) (omega (arith, h .l18, h .l19)) in
-    let clears = acceleration-le ps (s .vehicle) (s .grade) (l23 s) times in
-    let moves = acceleration-le ps (s .vehicle) (s .grade) (l48 s) times in
-    let stands = acceleration-le ps (s .vehicle) (s .grade) (l20 s) times in
+    let clears : l24 s .0 ≤ 19998 = acceleration-le ps (s .vehicle) (s .grade) _ times in
+    let moves : l49 s .0 ≤ 19998 = acceleration-le ps (s .vehicle) (s .grade) _ times in
+    let stands : l54 s .0 ≤ 19998 = acceleration-le ps (s .vehicle) (s .grade) _ times in
     let gate = up-le (s .l33 * s .l37) 100 9981 (omega arith) (omega (arith, mul-le-mul {n₁ = s .l33} {m₁ = s .l37} {n₂ = 999} {m₂ = 999} (h .l33) (h .l37 .high))) in
     let share = mul-le-mul {n₁ = s .l57} {m₁ = s .l58} {n₂ = 999} {m₂ = 100} (h .l57 .high) (h .l58) in
     record {
@@ -93,6 +92,3 @@ small-time a b n e h l = omega (arith, ap (λ (t : Tenths). t .0) e)
 
 pub small-feet : (a b : Feet) (n : ℕ) → a ≡ b → b .0 ≤ n → n ≤ 1000000 → a .0 ≤ 1000000
 small-feet a b n e h l = omega (arith, ap (λ (t : Feet). t .0) e)
-
-pub small-share : (a b : Hundredths) (n : ℕ) → a ≡ b → b .0 ≤ n → n ≤ 1000000 → a .0 ≤ 1000000
-small-share a b n e h l = omega (arith, ap (λ (t : Hundredths). t .0) e)

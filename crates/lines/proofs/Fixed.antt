@@ -5,8 +5,6 @@ use Rattle.lines.proofs.worksheet.Kinds as worksheet-kinds
 use Rattle.lines.proofs.worksheet.Reads as worksheet-reads
 use Rattle.lines.proofs.in_order.Kinds as in-order-kinds
 use Rattle.lines.proofs.in_order.Reads as in-order-reads
-use Rattle.lines.proofs.ticks.Kinds as ticks-kinds
-use Rattle.lines.proofs.ticks.Reads as ticks-reads
 
 pub worksheet-fixed : Fixes 0 worksheet-kinds.ps worksheet-kinds.r worksheet-reads.Learnt
 worksheet-fixed κs a z z′ w w′ p q = (p ∙ sym q, refl)
@@ -19,9 +17,3 @@ in-order-fixed κs a z z′ w w′ p q = (p ∙ sym q, refl)
 
 pub in-order-open : AsksNothing 0 in-order-kinds.ps in-order-reads.Asked
 in-order-open κs a = tt
-
-pub ticks-fixed : Fixes 0 ticks-kinds.ps ticks-kinds.r ticks-reads.Learnt
-ticks-fixed κs a z z′ w w′ p q = (p ∙ sym q, refl)
-
-pub ticks-open : AsksNothing 0 ticks-kinds.ps ticks-reads.Asked
-ticks-open κs a = tt

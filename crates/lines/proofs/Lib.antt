@@ -1,4 +1,5 @@
 pub mod Bounds
 pub mod Promised
+pub mod Accepted
 pub mod Cases
 pub mod Fixed

@@ -1,11 +1,11 @@
 -- "Both sides of each edge": P1 to P10 in one table, each case with what the definitions must give.
-use Prim.Native.Nat.{ℕ}
+use Prim.Native.Nat.{ℕ, _*_}
 use mathlib.Core.Bool.{Bool, true, false}
 use mathlib.Core.List.{List, [], _∷_}
 use lib.Dec.{eqb}
 use lib.IntN.{pos}
 use lib.ListN.{replicate}
-use Rattle.units.specs.Numbers.{both}
+use Rattle.units.specs.Numbers.{both, feet, tenths}
 use Rattle.sheet.specs.declared.Sheet.{Sheet}
 use Rattle.sheet.specs.declared.Phase.{Phase}
 use Rattle.sheet.specs.declared.Point.{Point}
@@ -14,7 +14,8 @@ use Rattle.sheet.specs.declared.Vehicle.the-variants.{Su, Bus, Wb50}
 use Rattle.sheet.specs.Refusals.{isFine, answerNumber, answerLine}
 use Rattle.sheet.specs.Zero.{zeroPhase, zeroPoint}
 use Rattle.accept.specs.Whole.{acceptOf}
-use Rattle.curve.specs.Cases.{GradedCase, rightGraded}
+use Rattle.factor.specs.Factor.{factorOf}
+use Rattle.curve.specs.Curve.{gradedOf}
 use Rattle.lines.specs.Worksheet.{worksheetOf, inOrder}
 
 abbrev point : ℕ → ℕ → Point
@@ -60,9 +61,11 @@ secondPhase = phase 4 40 0 35 20 70 100 1
 abbrev pub paperSheet : Sheet
 paperSheet = sheetWith secondPhase 60 41 55 10 60
 
--- a sheet with its 61 lines; a level time on a grade; a sheet with the number and line of its answer
+-- a sheet with its 61 lines; a vehicle, distance and grade with the factor in thousandths, and with a level time and the time on the grade;
+-- a sheet with the number and line of its answer
 pub data Case : Type 0 where
   works : Sheet → List ℕ → Case
+  slows : Vehicle → ℕ → ℕ → ℕ → Case
   climbs : Vehicle → ℕ → ℕ → ℕ → ℕ → Case
   answers : Sheet → ℕ → ℕ → Case
 
@@ -74,8 +77,15 @@ same (x ∷ xs) (y ∷ ys) = both (eqb x y) (same xs ys)
 
 abbrev pub right : Case → Bool
 right (works s lines) = both (isFine (worksheetOf s .answer)) (same (inOrder (worksheetOf s .lines)) lines)
-right (climbs v d g t r) = rightGraded (record { vehicle = v; distance = d; grade = pos g; level = t; gives = r })
+right (slows v d g n) =
+    let f = factorOf v (pos g) (feet d) in
+    eqb (f .over * 1000) (n * f .under)
+right (climbs v d g t r) = eqb (gradedOf (factorOf v (pos g) (feet d)) (tenths t) .0) r
 right (answers s number line) = both (eqb (answerNumber (acceptOf s)) number) (eqb (answerLine (acceptOf s)) line)
+
+abbrev pub allRight : List Case → Bool
+allRight [] = true
+allRight (c ∷ cs) = both (right c) (allRight cs)
 
 unfoldable pub paperCases : List Case
 paperCases =
@@ -89,6 +99,7 @@ paperCases =
     -- P3 "WB-50, 350 ft, grade 40, level 300 gives 417"
     ∷ climbs Wb50 350 40 300 417
     -- P4 "340 ft, 40, level 250: factor 1.386, gives 347"
+    ∷ slows Wb50 340 40 1386
     ∷ climbs Wb50 340 40 250 347
     -- P5 "350 ft, 30, level 300: 381"
     ∷ climbs Wb50 350 30 300 381

@@ -1,6 +1,7 @@
-pub mod Rules
+pub mod Sums
 pub mod Lines
 pub mod Sections
 pub mod Worksheet
 pub mod Cases
 pub mod Promises
+pub mod Accepted

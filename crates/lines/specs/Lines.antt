@@ -10,8 +10,9 @@ use Rattle.sheet.specs.declared.Phase.{Phase}
 use Rattle.transfer.specs.declared.Users.the-variants.{Vehicles, Pedestrians}
 use Rattle.transfer.specs.Transfer.{timeOf, worstOf, line16}
 use Rattle.curve.specs.Curve.{accelerationOf}
+use Rattle.rules.specs.Rules.{waited, line22, line38, line51, line59}
 use Rattle.lines.specs.declared.Lines.{Lines}
-use Rattle.lines.specs.Rules.{_plus_, _along_, _less_, waited, line22, line38, line51, line59}
+use Rattle.lines.specs.Sums.{_plus_, _along_, _less_}
 
 abbrev pub l01 : Sheet → Tenths
 l01 s = tenths (s .l01)
@@ -58,6 +59,7 @@ l11 s = tenths (pedestrianPhase s .walk)
 unfoldable pub l12 : Sheet → Tenths
 l12 s = tenths (pedestrianPhase s .clearance)
 
+-- "In mode 2, 13 and 14 are 0"
 unfoldable pub l13 : Sheet → Tenths
 l13 s = waited (pedestrianPhase s) (pedestrianPhase s .yellow)
 
@@ -88,6 +90,7 @@ l20 s = feet (s .l20)
 unfoldable pub l21 : Sheet → Feet
 l21 s = l18 s along l19 s
 
+-- "22 is 2 seconds plus 21 at 20 ft per second, taken up to the next tenth."
 unfoldable pub l22 : Sheet → Tenths
 l22 s = line22 (l21 s)
 
@@ -96,9 +99,11 @@ unfoldable pub l23 : Sheet → Feet
 l23 s = l19 s along l20 s
 
 -- "24, 49 and 54 are acceleration times over 23, 48 and 20. .. The one grade entered serves all three."
+-- What an acceleration time is stands in curve's specs/Curve.antt
 abbrev pub acceleration : Sheet → Feet → Tenths
 acceleration s d = accelerationOf (take (s .«point_count») (s .points)) (s .vehicle) (s .grade) d
 
+-- 24 is the acceleration time over 23
 unfoldable pub l24 : Sheet → Tenths
 l24 s = acceleration s (l23 s)
 
@@ -148,6 +153,7 @@ l36 s = l33 s
 abbrev pub l37 : Sheet → Hundredths
 l37 s = hundredths (s .l37)
 
+-- "38 = 36 times 37, up"
 unfoldable pub l38 : Sheet → Tenths
 l38 s = line38 (l36 s) (l37 s)
 
@@ -188,6 +194,7 @@ l47 s = feet (s .l47)
 unfoldable pub l48 : Sheet → Feet
 l48 s = l46 s along l47 s
 
+-- 49 is the acceleration time over 48
 unfoldable pub l49 : Sheet → Tenths
 l49 s = acceleration s (l48 s)
 
@@ -195,6 +202,7 @@ l49 s = acceleration s (l48 s)
 unfoldable pub l50 : Sheet → Tenths
 l50 s = l45 s plus l49 s
 
+-- "51 is the largest of 44, 50 and (house) 25, up to a whole second."
 unfoldable pub l51 : Sheet → Tenths
 l51 s = line51 (l44 s) (l50 s) (l25 s)
 
@@ -205,6 +213,7 @@ l52 s = l17 s
 unfoldable pub l53 : Sheet → Tenths
 l53 s = l22 s
 
+-- 54 is the acceleration time over 20
 unfoldable pub l54 : Sheet → Tenths
 l54 s = acceleration s (l20 s)
 
@@ -221,6 +230,7 @@ l57 s = tenths (s .l57)
 abbrev pub l58 : Sheet → Hundredths
 l58 s = hundredths (s .l58)
 
+-- "59 = 57 times 58, down, being time available"
 unfoldable pub l59 : Sheet → Tenths
 l59 s = line59 (l57 s) (l58 s)
 

@@ -2,22 +2,26 @@
 use Prim.Native.Nat.{ℕ, _+_, _*_, _<_, _≤_}
 use mathlib.Core.Path.{_≡_}
 use lib.Dec.{T}
-use Rattle.units.proofs.Tested.{all}
+use Rattle.units.specs.Numbers.{tenths}
 use Rattle.sheet.specs.declared.Sheet.{Sheet}
 use Rattle.sheet.specs.declared.Refusal.{Refusal}
 use Rattle.sheet.specs.declared.Answer.the-variants.{Fine, Refused}
 use Rattle.accept.specs.Whole.{acceptOf}
-use Rattle.lines.specs.Lines.{l03, l17, l21, l22, l25, l28, l29, l33, l34, l35, l37, l38, l40, l44, l50, l51, l57, l58, l59}
+use Rattle.lines.specs.Lines.{l03, pedestrianPhase, l13, l14, l17, l21, l22, l25, l28, l29, l33, l34, l35, l36, l37, l38, l40, l44, l50, l51, l53, l54, l57, l58, l59, l60, l61}
 use Rattle.lines.specs.Worksheet.{zeroLines, worksheetOf}
-use Rattle.lines.specs.Cases.{right, paperCases}
+use Rattle.lines.specs.Cases.{allRight, paperCases}
 
 -- "Proved in a single tabled statement"
 abbrev pub PaperCases : Type 0
-PaperCases = T (all right paperCases)
+PaperCases = T (allRight paperCases)
 
 -- "A refused .. worksheet .. gives only zeros beside its number"
 abbrev pub RefusedGivesZeros : Type 0
 RefusedGivesZeros = (s : Sheet) (r : Refusal) (line : ℕ) → acceptOf s ≡ Refused r line → worksheetOf s ≡ record { answer = Refused r line; lines = zeroLines }
+
+-- "In mode 2, 13 and 14 are 0."
+abbrev pub NoneInModeTwo : Type 0
+NoneInModeTwo = (s : Sheet) → pedestrianPhase s .mode ≡ 2 → (l13 s ≡ tenths 0) × (l14 s ≡ tenths 0)
 
 -- "22 is 2 seconds plus 21 at 20 ft per second, taken up to the next tenth": at 2 ft a tenth
 abbrev pub TwentyTwoUp : Type 0
@@ -48,6 +52,12 @@ WarningEnough = (s : Sheet) → l35 s .0 ≡ 0 → l17 s .0 + l25 s .0 + l28 s .
 -- gates that are down by line 40 are down before a green that starts at line 3 or later ends
 abbrev pub GatesBeforeEnd : Type 0
 GatesBeforeEnd = (s : Sheet) → l40 s .0 ≤ l03 s .0 + l51 s .0
+
+-- 628's line 61: "If the result is greater than the amount of advance preemption time provided by the railroad, as given on Line 36, there is a
+-- possibility that the gates could descend on a stationary or slow-moving design vehicle." Where it is not, that time and line 60 are enough for
+-- the transfer and the vehicle's own length
+abbrev pub AdvanceEnough : Type 0
+AdvanceEnough = (s : Sheet) → l61 s .0 ≤ l36 s .0 → l17 s .0 + l53 s .0 + l54 s .0 ≤ l36 s .0 + l60 s .0
 
 -- on an accepted sheet the call is counted for a tick at least, and the green lasts
 abbrev pub Lasting : Type 0

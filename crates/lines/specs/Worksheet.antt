@@ -79,7 +79,7 @@ zeroLines =
 unfoldable pub worksheetOf : Sheet → Worked
 worksheetOf s = record { answer = acceptOf s; lines = pick (isFine (acceptOf s)) (linesOf s) zeroLines }
 
--- "L01 .. L61, one line each"
+-- "then `L01=0` to `L61=297`, one line each"
 unfoldable pub inOrder : Lines → List ℕ
 inOrder l =
     l .l01 .0

@@ -7,8 +7,8 @@ use units::Feet;
 use units::Hundredths;
 use units::Tenths;
 
-mod rules;
 mod sections;
+mod sums;
 
 pub struct Lines {
     pub l01: Tenths,
@@ -243,11 +243,4 @@ pub fn in_order(l: Lines) -> [u64; 61]
         l.l60.0,
         l.l61.0,
     ]
-}
-
-// "A tick is one tenth."
-pub fn ticks(t: Tenths) -> u64
-    ensures { λ r. ⌜ r ≡ t .0 ⌝ }
-{
-    t.0
 }

@@ -2,10 +2,10 @@
 ghost use mathlib.Core.Path.{_≡_};
 ghost use Rattle.sheet.specs.declared.Answer.the-variants.{Fine};
 ghost use Rattle.accept.specs.Whole.{acceptOf};
-ghost use Rattle.lines.specs.Lines.{l03, l17, l20, l22, l23, l25, l33, l44, linesOf};
+ghost use Rattle.lines.specs.Lines.{l03, l17, l20, l22, l23, l25, l44, linesOf};
 ghost use Rattle.lines.specs.Sections.{transferLines, vehiclesLines, pedestriansLines, clearanceLines, warningLines, gatesLines, greenLines, streetLines, assemble};
 use super::Lines;
-use super::rules;
+use super::sums;
 use sheet::Sheet;
 use transfer::Users;
 use units::Feet;
@@ -101,12 +101,12 @@ pub(crate) fn transfer_lines(s: Sheet) -> Transfer
     requires { ⌜ acceptOf s ≡ Fine ⌝ }
     ensures { λ r. ⌜ r ≡ transferLines s ⌝ }
 {
-    let l01 = rules::time(s.l01);
-    let l02 = rules::time(s.l02);
-    let l03 = rules::plus(l01, l02);
+    let l01 = sums::time(s.l01);
+    let l02 = sums::time(s.l02);
+    let l03 = sums::plus(l01, l02);
     let phases = s.phases;
     let l16 = transfer::line16(phases, s.phase_count);
-    let l17 = rules::plus(l03, l16);
+    let l17 = sums::plus(l03, l16);
     Transfer {
         l01: l01,
         l02: l02,
@@ -123,10 +123,10 @@ pub(crate) fn vehicle_lines(s: Sheet) -> Vehicles
     let phases = s.phases;
     let p = transfer::worst(Users::Vehicles, phases, s.phase_count);
     let l04 = p.number;
-    let l05 = rules::time(p.green);
-    let l06 = rules::time(p.other);
-    let l07 = rules::time(p.yellow);
-    let l08 = rules::time(p.red);
+    let l05 = sums::time(p.green);
+    let l06 = sums::time(p.other);
+    let l07 = sums::time(p.yellow);
+    let l08 = sums::time(p.red);
     let l09 = transfer::time(Users::Vehicles, p);
     Vehicles {
         l04: l04,
@@ -145,8 +145,8 @@ pub(crate) fn pedestrian_lines(s: Sheet) -> Pedestrians
     let phases = s.phases;
     let p = transfer::worst(Users::Pedestrians, phases, s.phase_count);
     let l10 = p.number;
-    let l11 = rules::time(p.walk);
-    let l12 = rules::time(p.clearance);
+    let l11 = sums::time(p.walk);
+    let l12 = sums::time(p.clearance);
     let l13 = rules::waited(p, p.yellow);
     let l14 = rules::waited(p, p.red);
     let l15 = transfer::time(Users::Pedestrians, p);
@@ -164,14 +164,14 @@ pub(crate) fn clearance_lines(s: Sheet) -> Clearance
     requires { ⌜ acceptOf s ≡ Fine ⌝ }
     ensures { λ r. ⌜ r ≡ clearanceLines s ⌝ }
 {
-    let l18 = rules::distance(s.l18);
-    let l19 = rules::distance(s.l19);
-    let l20 = rules::distance(s.l20);
-    let l21 = rules::along(l18, l19);
+    let l18 = sums::distance(s.l18);
+    let l19 = sums::distance(s.l19);
+    let l20 = sums::distance(s.l20);
+    let l21 = sums::along(l18, l19);
     let l22 = rules::line22(l21);
-    let l23 = rules::along(l19, l20);
-    let l24 = rules::acceleration(s, l23);
-    let l25 = rules::plus(l22, l24);
+    let l23 = sums::along(l19, l20);
+    let l24 = sums::acceleration(s, l23);
+    let l25 = sums::plus(l22, l24);
     Clearance {
         l18: l18,
         l19: l19,
@@ -188,14 +188,14 @@ pub(crate) fn warning_lines(s: Sheet, m17: Tenths, m25: Tenths) -> Warning
     requires { ⌜ (acceptOf s ≡ Fine) × (m17 ≡ l17 s) × (m25 ≡ l25 s) ⌝ }
     ensures { λ r. ⌜ r ≡ warningLines s ⌝ }
 {
-    let l28 = rules::time(s.l28);
-    let l30 = rules::time(s.l30);
-    let l31 = rules::time(s.l31);
-    let l33 = rules::time(s.l33);
-    let l29 = rules::plus(rules::plus(m17, m25), l28);
-    let l32 = rules::plus(l30, l31);
-    let l34 = rules::plus(l32, l33);
-    let l35 = rules::less(l29, l34);
+    let l28 = sums::time(s.l28);
+    let l30 = sums::time(s.l30);
+    let l31 = sums::time(s.l31);
+    let l33 = sums::time(s.l33);
+    let l29 = sums::plus(sums::plus(m17, m25), l28);
+    let l32 = sums::plus(l30, l31);
+    let l34 = sums::plus(l32, l33);
+    let l35 = sums::less(l29, l34);
     Warning {
         l28: l28,
         l29: l29,
@@ -208,17 +208,17 @@ pub(crate) fn warning_lines(s: Sheet, m17: Tenths, m25: Tenths) -> Warning
     }
 }
 
-pub(crate) fn gate_lines(s: Sheet, m03: Tenths, m33: Tenths) -> Gates
-    requires { ⌜ (acceptOf s ≡ Fine) × (m03 ≡ l03 s) × (m33 ≡ l33 s) ⌝ }
+pub(crate) fn gate_lines(s: Sheet, m03: Tenths) -> Gates
+    requires { ⌜ (acceptOf s ≡ Fine) × (m03 ≡ l03 s) ⌝ }
     ensures { λ r. ⌜ r ≡ gatesLines s ⌝ }
 {
-    let l37 = rules::multiplier(s.l37);
-    let l38 = rules::line38(m33, l37);
-    let l39 = rules::time(s.l39);
-    let l40 = rules::plus(l38, l39);
-    let l42 = rules::time(0);
-    let l43 = rules::plus(m03, l42);
-    let l44 = rules::less(l40, l43);
+    let l37 = sums::multiplier(s.l37);
+    let l38 = rules::line38(s.l33, s.l37);
+    let l39 = sums::time(s.l39);
+    let l40 = sums::plus(l38, l39);
+    let l42 = sums::time(0);
+    let l43 = sums::plus(m03, l42);
+    let l44 = sums::less(l40, l43);
     Gates {
         l37: l37,
         l38: l38,
@@ -234,11 +234,11 @@ pub(crate) fn green_lines(s: Sheet, m22: Tenths, m23: Feet, m25: Tenths, m44: Te
     requires { ⌜ (acceptOf s ≡ Fine) × (m22 ≡ l22 s) × (m23 ≡ l23 s) × (m25 ≡ l25 s) × (m44 ≡ l44 s) ⌝ }
     ensures { λ r. ⌜ r ≡ greenLines s ⌝ }
 {
-    let l47 = rules::distance(s.l47);
-    let l48 = rules::along(m23, l47);
-    let l49 = rules::acceleration(s, l48);
-    let l50 = rules::plus(m22, l49);
-    let l51 = rules::line51(m44, l50, m25);
+    let l47 = sums::distance(s.l47);
+    let l48 = sums::along(m23, l47);
+    let l49 = sums::acceleration(s, l48);
+    let l50 = sums::plus(m22, l49);
+    let l51 = rules::line51(sums::number(m44), sums::number(l50), sums::number(m25));
     Green {
         l47: l47,
         l48: l48,
@@ -252,14 +252,14 @@ pub(crate) fn street_lines(s: Sheet, m17: Tenths, m20: Feet, m22: Tenths) -> Str
     requires { ⌜ (acceptOf s ≡ Fine) × (m17 ≡ l17 s) × (m20 ≡ l20 s) × (m22 ≡ l22 s) ⌝ }
     ensures { λ r. ⌜ r ≡ streetLines s ⌝ }
 {
-    let l54 = rules::acceleration(s, m20);
-    let l55 = rules::plus(rules::plus(m17, m22), l54);
-    let l56 = rules::time(s.l56);
-    let l57 = rules::time(s.l57);
-    let l58 = rules::multiplier(s.l58);
-    let l59 = rules::line59(l57, l58);
-    let l60 = rules::plus(l56, l59);
-    let l61 = rules::less(l55, l60);
+    let l54 = sums::acceleration(s, m20);
+    let l55 = sums::plus(sums::plus(m17, m22), l54);
+    let l56 = sums::time(s.l56);
+    let l57 = sums::time(s.l57);
+    let l58 = sums::multiplier(s.l58);
+    let l59 = rules::line59(s.l57, s.l58);
+    let l60 = sums::plus(l56, l59);
+    let l61 = sums::less(l55, l60);
     Street {
         l54: l54,
         l55: l55,
@@ -282,7 +282,7 @@ pub(crate) fn lines_of(s: Sheet) -> Lines
     let p = pedestrian_lines(s);
     let c = clearance_lines(s);
     let w = warning_lines(s, t.l17, c.l25);
-    let g = gate_lines(s, t.l03, w.l33);
+    let g = gate_lines(s, t.l03);
     let e = green_lines(s, c.l22, c.l23, c.l25, g.l44);
     let b = street_lines(s, t.l17, c.l20, c.l22);
     assembled(t, v, p, c, w, g, e, b)

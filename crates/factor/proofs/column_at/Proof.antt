@@ -2,19 +2,26 @@
 use mathlib.Core.Path.{refl, _∙_}
 use Prim.Native.Nat.{ℕ, _-_}
 use native.Mathlib.Omega.{arith}
-use borrow.Author.Needs.{needs}
 use Rattle.units.specs.Numbers.{pick}
 use Rattle.sheet.specs.declared.Vehicle.the-variants.{Su, Bus, Wb50}
-use Rattle.factor.specs.Factor.{columnOf, placeOn, twentyOf}
+use Rattle.factor.specs.Factor.{columnOf, placeOn, placed, twentyOf}
 use Rattle.factor.proofs.Places.{column-low, column-above}
+use native.Mathlib.Omega.{arith}
+use borrow.Author.Needs.{needs}
 use Rattle.factor.proofs.column_at.Statement.{statement}
 use Rattle.factor.proofs.column_at.Tie as tie
 
 enum-told : tie.Need-enum-told
 enum-told c = search needs
 
+placed-requires : tie.Need-placed-requires
+placed-requires c κs = search needs
+
 enum-told-2 : tie.Need-enum-told-2
 enum-told-2 c = search needs
+
+placed-requires-2 : tie.Need-placed-requires-2
+placed-requires-2 c κs = search needs
 
 sub-every-twenty : tie.Need-sub-every-twenty
 sub-every-twenty c = search needs
@@ -25,8 +32,11 @@ every-twenty-requires c κs = search needs
 enum-told-3 : tie.Need-enum-told-3
 enum-told-3 c = search needs
 
-sub-t9 : tie.Need-sub-t9
-sub-t9 c = search needs
+sub-placed : tie.Need-sub-placed
+sub-placed c = search needs
+
+placed-requires-3 : tie.Need-placed-requires-3
+placed-requires-3 c κs = search needs
 
 sub-every-twenty-2 : tie.Need-sub-every-twenty-2
 sub-every-twenty-2 c = search needs
@@ -42,13 +52,14 @@ every-twenty-requires-3 c κs = search needs
 
 returns : tie.Need-returns
 unfolding columnOf placeOn
-returns c = rw (c .enum-told .given .1) refl
+returns c =
+    rw (c .before .enum-told .given .1) (c .placed .ensures)
 
 returns-2 : tie.Need-returns-2
 unfolding columnOf placeOn pick
 returns-2 c =
-    rw (c .before .enum-told2 .given .1)
-    (column-low Su (λ (k : ℕ). record { step = 0; past = 0; width = 20 }) tt (c .before .before .before .args .g) (c .if1 .taken))
+    rw (c .before .before .enum-told2 .given .1)
+    (c .placed2 .ensures ∙ column-low Su (λ (k : ℕ). placed 0 0 20) tt (c .before .before .before .before .args .g) (c .before .if1 .taken))
 
 returns-3 : tie.Need-returns-3
 unfolding columnOf placeOn pick
@@ -59,8 +70,8 @@ returns-3 c =
 returns-4 : tie.Need-returns-4
 unfolding columnOf placeOn pick
 returns-4 c =
-    rw (c .before .enum-told3 .given .1)
-    (column-low Bus (λ (k : ℕ). record { step = 4; past = k - 10; width = 10 }) tt (c .before .before .before .args .g) (c .if2 .taken))
+    rw (c .before .before .enum-told3 .given .1)
+    (c .placed3 .ensures ∙ column-low Bus (λ (k : ℕ). placed 4 (k - 10) 10) tt (c .before .before .before .before .args .g) (c .before .if2 .taken))
 
 returns-5 : tie.Need-returns-5
 unfolding columnOf placeOn pick
@@ -79,11 +90,14 @@ column-at-spec =
     tie.close
     (tie.spec
     enum-told
+    placed-requires
     enum-told-2
+    placed-requires-2
     sub-every-twenty
     every-twenty-requires
     enum-told-3
-    sub-t9
+    sub-placed
+    placed-requires-3
     sub-every-twenty-2
     every-twenty-requires-2
     enum-told-4

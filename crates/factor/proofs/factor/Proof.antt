@@ -1,6 +1,6 @@
 -- `factor::factor` meets its contract: its tests are the definition's, and the places stand inside the table. Assumes nothing.
 use mathlib.Core.Path.{_≡_, _∙_, sym, ap}
-use Prim.Native.Nat.{ℕ, min}
+use Prim.Native.Nat.{min}
 use native.Mathlib.Omega.{arith}
 use mir.Facts.{toZ-ofZ}
 use borrow.Author.Tests.{lt-ltb, le-ltb}
@@ -64,7 +64,8 @@ returns-3 c =
     let k = r .before .before in
     let u = k .before .before in
     let v = u .before .before .before .args .vehicle in
-    let column = r .before .column-at .ensures ∙ ap (columnOf v) (k .smaller .ensures ∙ ap (λ (n : ℕ). min n 80) (climbed u)) in
+    let top : k .smaller .result ≡ min (climb (u .before .before .before .args .grade)) 80 = omega (arith, k .smaller .ensures, climbed u) in
+    let column = r .before .column-at .ensures ∙ ap (columnOf v) top in
     let row = c .before .row-at .ensures ∙ ap rowOf (r .smaller2 .ensures) in
     pick-not _ _ _ _ (sym (u .before .before .is-car .ensures) ∙ u .before .if1 .left)
     (pick-not _ _ _ _ (le-ltb _ _ (rw (climbed u) at (k .before .if2 .left))) (c .by-table .ensures ∙ (λ i. tableOf (column i) (row i))))

@@ -5,7 +5,7 @@ use native.Mathlib.Omega.{arith}
 use borrow.Author.Needs.{needs}
 use Rattle.units.specs.declared.Hundredths.{Hundredths}
 use Rattle.factor.specs.Factor.{lineOf, mixOf}
-use Rattle.factor.proofs.Columns.{small}
+use Rattle.table.proofs.Columns.{small}
 use Rattle.factor.proofs.line.Statement.{statement}
 use Rattle.factor.proofs.line.Tie as tie
 

@@ -1,23 +1,41 @@
 -- `factor::row_at` meets its contract, by the computed test over every distance. Assumes nothing.
-use borrow.Author.Needs.{needs}
+use mathlib.Core.Path.{_∙_}
 use Rattle.factor.proofs.Places.{row-low, row-high}
+use borrow.Author.Needs.{needs}
 use Rattle.factor.proofs.row_at.Statement.{statement}
 use Rattle.factor.proofs.row_at.Tie as tie
 
+placed-requires : tie.Need-placed-requires
+placed-requires c κs = search needs
+
 returns : tie.Need-returns
-returns c = row-low (c .before .args .d) (c .if1 .taken)
+returns c =
+    c .placed .ensures ∙ row-low (c .before .before .args .d) (c .before .if1 .taken)
 
-sub-t3 : tie.Need-sub-t3
-sub-t3 c = search needs
+sub-placed : tie.Need-sub-placed
+sub-placed c = search needs
 
-sub-t6 : tie.Need-sub-t6
-sub-t6 c = search needs
+sub-placed-2 : tie.Need-sub-placed-2
+sub-placed-2 c = search needs
 
-add-t8 : tie.Need-add-t8
-add-t8 c = search needs
+add-placed : tie.Need-add-placed
+add-placed c = search needs
+
+placed-requires-2 : tie.Need-placed-requires-2
+placed-requires-2 c κs = search needs
 
 returns-2 : tie.Need-returns-2
-returns-2 c = row-high (c .before .args .d) (c .if1 .left) (c .before .pre)
+returns-2 c =
+    c .placed2 .ensures ∙ row-high (c .before .before .args .d) (c .before .if1 .left) (c .before .before .pre)
 
 pub row-at-spec : {M : Type 1} → statement M
-row-at-spec = tie.close (tie.spec returns sub-t3 sub-t6 add-t8 returns-2)
+row-at-spec =
+    tie.close
+    (tie.spec
+    placed-requires
+    returns
+    sub-placed
+    sub-placed-2
+    add-placed
+    placed-requires-2
+    returns-2)

@@ -1,6 +1,7 @@
 -- `lines::worksheet` meets its contract: an accepted sheet has its lines, a refused one zeros. Assumes nothing.
 use borrow.Author.Needs.{needs}
 use mathlib.Core.Path.{_≡_, _∙_, sym, ap}
+use mathlib.Core.Bool.{true, false}
 use Rattle.units.proofs.Steps.{pick-yes, pick-not}
 use Rattle.sheet.specs.Refusals.{isFine}
 use Rattle.sheet.proofs.Answers.{is-fine}
@@ -20,7 +21,8 @@ is-fine-requires c κs = search needs
 
 lines-of-requires : tie.Need-lines-of-requires
 lines-of-requires c κs =
-    is-fine _ (told (c .before) ∙ c .if1 .taken)
+    let fine : isFine (acceptOf (c .before .before .before .args .s)) ≡ true = simp (told (c .before), c .if1 .taken) in
+    is-fine _ fine
 
 zero-lines-requires : tie.Need-zero-lines-requires
 zero-lines-requires c κs = search needs
@@ -28,12 +30,16 @@ zero-lines-requires c κs = search needs
 returns : tie.Need-returns
 unfolding worksheetOf
 returns c =
-    let lines = pick-yes _ _ _ _ (told (c .before .before) ∙ c .before .if1 .taken) (c .lines-of .ensures) in λ i. record { answer = c .before .before .before .accept .ensures i; lines = lines i }
+    let fine : isFine (acceptOf (c .before .before .before .before .args .s)) ≡ true = simp (told (c .before .before), c .before .if1 .taken) in
+    let lines = pick-yes _ _ _ _ fine (c .lines-of .ensures) in
+    λ i. record { answer = c .before .before .before .accept .ensures i; lines = lines i }
 
 returns-2 : tie.Need-returns-2
 unfolding worksheetOf
 returns-2 c =
-    let lines = pick-not _ _ _ _ (told (c .before .before) ∙ c .before .if1 .left) (c .zero-lines .ensures) in λ i. record { answer = c .before .before .before .accept .ensures i; lines = lines i }
+    let faulty : isFine (acceptOf (c .before .before .before .before .args .s)) ≡ false = simp (told (c .before .before), c .before .if1 .left) in
+    let lines = pick-not _ _ _ _ faulty (c .zero-lines .ensures) in
+    λ i. record { answer = c .before .before .before .accept .ensures i; lines = lines i }
 
 pub worksheet-spec : {M : Type 1} → statement M
 worksheet-spec =

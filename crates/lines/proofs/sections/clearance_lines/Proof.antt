@@ -3,7 +3,8 @@ use borrow.Author.Needs.{needs}
 use mathlib.Core.Path.{_≡_, _∙_}
 use native.Mathlib.Omega.{arith}
 use Rattle.accept.proofs.Sound.{sound}
-use Rattle.lines.specs.Rules.{_plus_, _along_, line22}
+use Rattle.rules.specs.Rules.{line22}
+use Rattle.lines.specs.Sums.{_plus_, _along_}
 use Rattle.lines.specs.Lines.{l18, l19, l20, l21, l22, l23, l24, l25, acceleration}
 use Rattle.lines.specs.Sections.{clearanceLines}
 use Rattle.lines.proofs.Bounds.{bounds, small-time, small-feet}
@@ -47,11 +48,7 @@ along-requires c κs =
     (small-feet _ (l18 s) 400 (c .before .before .distance .ensures) (h .l18) (omega arith), small-feet _ (l19 s) 400 (c .before .distance2 .ensures) (h .l19 .high) (omega arith))
 
 line22-requires : tie.Need-line22-requires
-line22-requires c κs =
-    let s = c .before .before .before .before .args .s in
-    let h = sound s (c .before .before .before .before .pre) in
-    let b = bounds s (c .before .before .before .before .pre) in
-    small-feet _ (l21 s) 800 (e21 (c)) (b .l21) (omega arith)
+line22-requires c κs = search needs
 
 along-requires-2 : tie.Need-along-requires-2
 along-requires-2 c κs =

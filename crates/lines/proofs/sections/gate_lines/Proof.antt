@@ -3,16 +3,16 @@ use borrow.Author.Needs.{needs}
 use mathlib.Core.Path.{_≡_, _∙_}
 use native.Mathlib.Omega.{arith}
 use Rattle.accept.proofs.Sound.{sound}
-use Rattle.lines.specs.Rules.{_plus_, _less_, line38}
-use Rattle.lines.specs.Lines.{l03, l33, l36, l37, l38, l39, l40, l41, l42, l43, l44}
+use Rattle.lines.specs.Sums.{_plus_, _less_}
+use Rattle.lines.specs.Lines.{l03, l36, l38, l39, l40, l41, l42, l43, l44}
 use Rattle.lines.specs.Sections.{gatesLines}
-use Rattle.lines.proofs.Bounds.{bounds, small-time, small-share}
+use Rattle.lines.proofs.Bounds.{bounds, small-time}
 use Rattle.lines.proofs.sections.gate_lines.Statement.{statement}
 use Rattle.lines.proofs.sections.gate_lines.Tie as tie
 
 e38 : (c : tie.After-line38) → c .line38 .result ≡ l38 (c .before .before .args .s)
 unfolding l38 l36
-e38 c = c .line38 .ensures ∙ λ i. line38 ((c .before .before .pre .2) i) ((c .before .multiplier .ensures) i)
+e38 c = c .line38 .ensures
 
 e40 : (c : tie.After-plus) → c .plus .result ≡ l40 (c .before .before .before .before .args .s)
 unfolding l40
@@ -30,11 +30,7 @@ multiplier-requires : tie.Need-multiplier-requires
 multiplier-requires c κs = search needs
 
 line38-requires : tie.Need-line38-requires
-line38-requires c κs =
-    let s = c .before .args .s in
-    let h = sound s (c .before .pre .0) in
-    let b = bounds s (c .before .pre .0) in
-    (small-time _ (l33 s) 999 (c .before .pre .2) (h .l33) (omega arith), small-share _ (l37 s) 999 (c .multiplier .ensures) (h .l37 .high) (omega arith))
+line38-requires c κs = search needs
 
 time-requires : tie.Need-time-requires
 time-requires c κs = search needs

@@ -24,9 +24,9 @@ warning-lines-requires c κs =
     (c .before .before .before .before .pre, λ i. c .before .before .before .transfer-lines .ensures i .l17, λ i. c .clearance-lines .ensures i .l25)
 
 gate-lines-requires : tie.Need-gate-lines-requires
-unfolding transferLines warningLines
+unfolding transferLines
 gate-lines-requires c κs =
-    (c .before .before .before .before .before .pre, λ i. c .before .before .before .before .transfer-lines .ensures i .l03, λ i. c .warning-lines .ensures i .l33)
+    (c .before .before .before .before .before .pre, λ i. c .before .before .before .before .transfer-lines .ensures i .l03)
 
 green-lines-requires : tie.Need-green-lines-requires
 unfolding clearanceLines gatesLines

@@ -5,7 +5,7 @@ use Rattle.units.specs.Numbers.{tenths}
 use Rattle.sheet.specs.declared.Phase.{Phase}
 use Rattle.transfer.specs.declared.Users.the-variants.{Pedestrians}
 use Rattle.transfer.specs.Transfer.{timeOf}
-use Rattle.lines.specs.Rules.{waited}
+use Rattle.rules.specs.Rules.{waited}
 use Rattle.lines.specs.Lines.{l10, l11, l12, l13, l14, l15}
 use Rattle.lines.specs.Sections.{pedestriansLines}
 use Rattle.lines.proofs.sections.pedestrian_lines.Statement.{statement}

@@ -3,10 +3,10 @@ use borrow.Author.Needs.{needs}
 use mathlib.Core.Path.{_≡_, _∙_}
 use native.Mathlib.Omega.{arith}
 use Rattle.accept.proofs.Sound.{sound}
-use Rattle.lines.specs.Rules.{_plus_, _less_, line59}
-use Rattle.lines.specs.Lines.{l17, l22, l52, l53, l54, l55, l56, l57, l58, l59, l60, l61, acceleration}
+use Rattle.lines.specs.Sums.{_plus_, _less_}
+use Rattle.lines.specs.Lines.{l17, l22, l52, l53, l54, l55, l56, l59, l60, l61, acceleration}
 use Rattle.lines.specs.Sections.{streetLines}
-use Rattle.lines.proofs.Bounds.{bounds, small-time, small-share}
+use Rattle.lines.proofs.Bounds.{bounds, small-time}
 use Rattle.lines.proofs.sections.street_lines.Statement.{statement}
 use Rattle.lines.proofs.sections.street_lines.Tie as tie
 
@@ -23,7 +23,7 @@ e55 c = c .plus2 .ensures ∙ λ i. (et2 (c .before)) i plus (e54 (c .before .be
 
 e59 : (c : tie.After-line59) → c .line59 .result ≡ l59 (c .before .before .before .before .before .before .before .args .s)
 unfolding l59
-e59 c = c .line59 .ensures ∙ λ i. line59 ((c .before .before .time2 .ensures) i) ((c .before .multiplier .ensures) i)
+e59 c = c .line59 .ensures
 
 e60 : (c : tie.After-plus3) → c .plus3 .result ≡ l60 (c .before .before .before .before .before .before .before .before .args .s)
 unfolding l60
@@ -60,11 +60,7 @@ multiplier-requires : tie.Need-multiplier-requires
 multiplier-requires c κs = search needs
 
 line59-requires : tie.Need-line59-requires
-line59-requires c κs =
-    let s = c .before .before .before .before .before .before .args .s in
-    let h = sound s (c .before .before .before .before .before .before .pre .0) in
-    let b = bounds s (c .before .before .before .before .before .before .pre .0) in
-    (small-time _ (l57 s) 999 (c .before .time2 .ensures) (h .l57 .high) (omega arith), small-share _ (l58 s) 100 (c .multiplier .ensures) (h .l58) (omega arith))
+line59-requires c κs = search needs
 
 plus-requires-3 : tie.Need-plus-requires-3
 plus-requires-3 c κs =

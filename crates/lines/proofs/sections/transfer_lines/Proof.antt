@@ -3,7 +3,7 @@ use borrow.Author.Needs.{needs}
 use mathlib.Core.Path.{_≡_, _∙_}
 use native.Mathlib.Omega.{arith}
 use Rattle.accept.proofs.Sound.{sound}
-use Rattle.lines.specs.Rules.{_plus_}
+use Rattle.lines.specs.Sums.{_plus_}
 use Rattle.lines.specs.Lines.{l01, l02, l03, l16, l17}
 use Rattle.lines.specs.Sections.{transferLines}
 use Rattle.lines.proofs.Bounds.{bounds, small-time}

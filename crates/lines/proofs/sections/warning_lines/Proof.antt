@@ -3,7 +3,7 @@ use borrow.Author.Needs.{needs}
 use mathlib.Core.Path.{_≡_, _∙_}
 use native.Mathlib.Omega.{arith}
 use Rattle.accept.proofs.Sound.{sound}
-use Rattle.lines.specs.Rules.{_plus_, _less_}
+use Rattle.lines.specs.Sums.{_plus_, _less_}
 use Rattle.lines.specs.Lines.{l17, l25, l28, l29, l30, l31, l32, l33, l34, l35}
 use Rattle.lines.specs.Sections.{warningLines}
 use Rattle.lines.proofs.Bounds.{bounds, small-time}
