@@ -9,24 +9,28 @@ use Rattle.sheet.specs.declared.Sheet.{Sheet}
 use Rattle.sheet.specs.Refusals.{isFine}
 use Rattle.sheet.proofs.Answers.{is-fine}
 use Rattle.stage.specs.declared.Stage.{Stage}
-use Rattle.stage.specs.declared.Stage.the-variants.{TrackGreen, TrackYellow, TrackRed, Open, Ending, ClearanceGreen, ClearanceYellow, ClearanceRed, Dwell}
-use Rattle.unit.specs.declared.Command.{Command}
+use Rattle.stage.specs.declared.Stage.the-variants.{TrackGreen, TrackYellow, TrackRed, Open, Ending, ClearanceGreen, Dwell}
+use Rattle.stage.specs.declared.Command.{Command}
 use Rattle.unit.specs.declared.Unit.{Unit}
 use Rattle.unit.specs.Runs.{Event, tick, load, answerTo, run}
 use Rattle.unit.specs.Unit.{tickOf, loadOf}
 use Rattle.unit.proofs.Loads.{load-needs, not-loaded}
-use Rattle.promises.specs.Demand.{ticksIn, upTo, atEnd, ShowsGreen, GreenBetween}
+use Rattle.promises.specs.Demand.{ticksIn, upTo, atEnd, ShowsGreen}
+
+-- it shows at the end of each tick from number `first` on and before number `last`, and at no other, as far as the events go
+pub record GreenBetween (u : Unit) (es : List Event) (first last : ℕ) : Type 0 where
+  pub shows : (n : ℕ) → n ≤ ticksIn es → first ≤ n → n < last → ShowsGreen (atEnd u es n)
+  pub before : (n : ℕ) → n ≤ ticksIn es → n < first → ShowsGreen (atEnd u es n) → ⊥
+  pub after : (n : ℕ) → n ≤ ticksIn es → last ≤ n → ShowsGreen (atEnd u es n) → ⊥
 
 -- any stage but the clearance green
 abbrev pub Dark : Stage → Type 0
 Dark TrackGreen = Prim.Unit {0}
-Dark (TrackYellow n i) = Prim.Unit {0}
-Dark (TrackRed n i) = Prim.Unit {0}
+Dark (TrackYellow p z i) = Prim.Unit {0}
+Dark (TrackRed p z i) = Prim.Unit {0}
 Dark (Open n g w) = Prim.Unit {0}
-Dark (Ending n m l w) = Prim.Unit {0}
+Dark (Ending n z l w) = Prim.Unit {0}
 Dark (ClearanceGreen j) = ⊥
-Dark (ClearanceYellow j) = Prim.Unit {0}
-Dark (ClearanceRed j) = Prim.Unit {0}
 Dark Dwell = Prim.Unit {0}
 
 pub dark : (u : Unit) → Dark (u .stage) → ShowsGreen u → ⊥
@@ -77,7 +81,7 @@ module _ (u : Unit) (c : Command) (es : List Event) (first last : ℕ) (h : Gree
 module _ (u : Unit) (c : Command) (es : List Event) (last : ℕ) (h : GreenBetween (tickOf u c true .unit) es 0 last) where
   now-shows : ShowsGreen u → (n : ℕ) → n ≤ suc (ticksIn es) → 0 ≤ n → n < suc last → ShowsGreen (atEnd u (tick c true ∷ es) n)
   unfolding run answerTo
-  now-shows s zero a b d = s
+  now-shows s zero a b d = search s
   now-shows s (suc n) a b d = h .shows n (omega arith) (omega arith) (omega arith)
 
   pub now : ShowsGreen u → GreenBetween u (tick c true ∷ es) 0 (suc last)
@@ -92,24 +96,24 @@ module _ (u : Unit) (c : Command) (es : List Event) (h : GreenBetween (tickOf u 
   pub over : Dark (u .stage) → GreenBetween u (tick c true ∷ es) 0 0
   over d = record { shows = λ n a b e. absurd (omega arith); before = λ n a b z. omega arith; after = λ n a b. over-after d n a }
 
--- ---- a load while a call is counted
-module _ (u : Unit) (s : Sheet) (p : 0 < u .count) where
-  pub refused : isFine (loadOf u s .answer) ≡ false
-  refused = split (isFine (loadOf u s .answer)) (λ e. absurd (omega (arith, load-needs u s (is-fine _ e) .count))) (λ e. e)
+-- ---- a load that is refused
+-- while a call is counted, or outside track green
+pub counted-refuses : (u : Unit) (s : Sheet) → 0 < u .count → isFine (loadOf u s .answer) ≡ false
+counted-refuses u s p = split (isFine (loadOf u s .answer)) (λ e. absurd (omega (arith, load-needs u s (is-fine _ e) .count))) (λ e. e)
 
-  pub unchanged : loadOf u s .unit ≡ u
-  unchanged = not-loaded u s refused
+pub elsewhere-refuses : (u : Unit) (s : Sheet) → (u .stage ≡ TrackGreen → ⊥) → isFine (loadOf u s .answer) ≡ false
+elsewhere-refuses u s n = split (isFine (loadOf u s .answer)) (λ e. absurd (n (load-needs u s (is-fine _ e) .stage))) (λ e. e)
 
-  module _ (es : List Event) where
-    same-end : (n : ℕ) → atEnd u (load s ∷ es) n ≡ atEnd u es n
-    unfolding run answerTo
-    same-end zero = refl
-    same-end (suc n) = ap (λ (w : Unit). run w (upTo (suc n) es)) unchanged
+module _ (u : Unit) (s : Sheet) (refused : isFine (loadOf u s .answer) ≡ false) (es : List Event) where
+  same-end : (n : ℕ) → atEnd u (load s ∷ es) n ≡ atEnd u es n
+  unfolding run answerTo
+  same-end zero = refl
+  same-end (suc n) = ap (λ (w : Unit). run w (upTo (suc n) es)) (not-loaded u s refused)
 
-    pub unloaded : (first last : ℕ) → GreenBetween u es first last → GreenBetween u (load s ∷ es) first last
-    unloaded first last h =
-        record {
-          shows = λ n a b d. subst ShowsGreen (sym (same-end n)) (h .shows n a b d);
-          before = λ n a b z. h .before n a b (subst ShowsGreen (same-end n) z);
-          after = λ n a b z. h .after n a b (subst ShowsGreen (same-end n) z);
-        }
+  pub unloaded : (first last : ℕ) → GreenBetween u es first last → GreenBetween u (load s ∷ es) first last
+  unloaded first last h =
+      record {
+        shows = λ n a b d. subst ShowsGreen (sym (same-end n)) (h .shows n a b d);
+        before = λ n a b z. h .before n a b (subst ShowsGreen (same-end n) z);
+        after = λ n a b z. h .after n a b (subst ShowsGreen (same-end n) z);
+      }

@@ -1,274 +1,298 @@
--- In the transfer each tick takes one off what is left of the stage, and track clearance green follows; the command and the call change nothing.
--- Assumes nothing.
+-- Where clearance green is owed each tick takes one off what is left of the stage, and then it shows, whatever command and call come; it shows for
+-- line 51; and then, while the call stays on, none shows again. Assumes nothing.
 use Prim.Native.Nat.{ℕ, suc, _+_, _≤_, _<_}
 use mathlib.Core.Bool.{Bool, true, false}
 use mathlib.Core.Path.{_≡_, refl, sym, ap, subst, _∙_}
 use native.Mathlib.Omega.{arith}
-use lib.Dec.{leb}
-use borrow.Author.Tests.{leb-false, lt-leb, le-leb, eq-eqb}
+use lib.Dec.{leb, eqb}
+use borrow.Author.Tests.{leb-false, lt-ltb, le-leb}
 use Rattle.units.specs.Numbers.{pick}
-use Rattle.units.proofs.Steps.{cases, never, both-right}
+use Rattle.units.proofs.Steps.{cases, both-right}
 use Rattle.sheet.specs.declared.Sheet.{Sheet}
 use Rattle.transfer.specs.declared.Users.the-variants.{Vehicles, Pedestrians}
 use Rattle.lines.specs.Worksheet.{worksheetOf}
+use Rattle.phase.specs.declared.Light.{Light}
+use Rattle.phase.specs.declared.Light.the-variants.{Green}
+use Rattle.phase.specs.declared.Walker.{Walker}
+use Rattle.phase.specs.declared.Walker.the-variants.{Walk}
 use Rattle.phase.specs.declared.Settled.{Settled}
 use Rattle.phase.specs.declared.Settled.the-variants.{Stays, Over}
+use Rattle.phase.specs.Ending.{settlePhase}
+use Rattle.phase.specs.Times.{oneMore}
 use Rattle.phase.specs.Promises as phases
-use Rattle.phase.proofs.Left.{Left, tick-left, left-none, ends-from}
+use Rattle.phase.proofs.Left.{Left, tick-left, left-none, ends-from, settle-left}
+use Rattle.stage.specs.declared.Command.{Command}
 use Rattle.stage.specs.declared.Lengths.{Lengths}
+use Rattle.stage.specs.declared.Place.{Place}
+use Rattle.stage.specs.declared.Place.the-variants.{Normal, Train}
 use Rattle.stage.specs.declared.Stage.{Stage}
-use Rattle.stage.specs.declared.Stage.the-variants.{TrackGreen, TrackYellow, TrackRed, Open, Ending, ClearanceGreen, ClearanceYellow, ClearanceRed, Dwell}
-use Rattle.stage.specs.Commands.{allowedAt}
-use Rattle.stage.specs.Fitness.{stageFits}
-use Rattle.stage.specs.Listed.{phaseOf, nextFits}
-use Rattle.stage.specs.Shown.{normalStage}
+use Rattle.stage.specs.declared.Stage.the-variants.{TrackGreen, TrackYellow, TrackRed, Open, Ending, ClearanceGreen, Dwell}
+use Rattle.stage.specs.declared.Then.{Then}
+use Rattle.stage.specs.declared.Then.the-variants.{ToTrack, ToPhase, ToClearance, ToDwell}
+use Rattle.stage.specs.Fitness.{thenFits, phaseFits, stageFits}
+use Rattle.stage.specs.Listed.{phaseOf}
+use Rattle.stage.specs.Shown.{inNormal, normalBefore, staysNormal}
 use Rattle.stage.specs.Times.{addOne}
 use Rattle.stage.proofs.Fit.{phase-told}
-use Rattle.unit.specs.declared.Command.{Command}
-use Rattle.unit.specs.declared.Command.the-variants.{None, End}
-use Rattle.unit.specs.declared.Unit.{Unit}
-use Rattle.unit.specs.Settling.{at, afterClearance, settleClearanceRed, settleClearanceYellow, settleClearanceGreen, settleTrackGreen, starts, settleNext, settleTrackRed, settleTrackYellow, settledAs, settleAt, settle}
-use Rattle.unit.specs.Commands.{allowed, heard, obeyed}
-use Rattle.unit.specs.Calls.{inNormal, dwellEnds, readCall}
-use Rattle.unit.specs.Promises.{RestsIn, Rests}
-use Rattle.unit.specs.Unit.{accepted, afterCommand, afterCall, ticked}
-use Rattle.unit.proofs.Rest.{nothing-due, rests-settled}
-use Rattle.promises.proofs.Sheets.{listed-fair, listed-time, track-time}
-use Rattle.promises.proofs.Counting.{up-one}
+use Rattle.flow.specs.declared.Now.{Now}
+use Rattle.flow.specs.Calls.{counting, answered, dropped, begins, called, overdue}
+use Rattle.flow.specs.Settling.{enter, settleRed, settleYellow, settleGreen, settledAs, settle}
+use Rattle.flow.specs.Tick.{afterTimes, afterCommand, afterCall, endOf}
+use Rattle.flow.specs.Promises.{now, Rests, phaseShown}
+use Rattle.flow.proofs.Rest.{kept, nothing-due}
+use Rattle.flow.proofs.Dwell.{uncounted, on-time}
+use Rattle.flow.proofs.Transfer as flow
+use Rattle.unit.specs.Unit.{accepted}
+use Rattle.promises.proofs.Sheets.{listed-fair, listed-time}
 
--- the stage is at rest and over within k ticks
-abbrev pub Coming : Sheet → ℕ → Stage → Type 0
-Coming s k TrackGreen = ⊥
-Coming s k (TrackYellow n i) = (i < s .«track_yellow») × (s .«track_yellow» + s .«track_red» ≤ i + k)
-Coming s k (TrackRed n i) = (i < s .«track_red») × (s .«track_red» ≤ i + k)
-Coming s k (Open n g w) = ⊥
-Coming s k (Ending n m l w) = Left (phaseOf s n) k (Stays l w)
-Coming s k (ClearanceGreen j) = ⊥
-Coming s k (ClearanceYellow j) = ⊥
-Coming s k (ClearanceRed j) = ⊥
-Coming s k Dwell = ⊥
+pub up-one : (k n : ℕ) → k < n → oneMore k n ≡ k + 1
+unfolding oneMore pick
+up-one k n h = rw (lt-ltb k n h) refl
+
+-- clearance green is owed, and the stage is at rest and over within k ticks
+abbrev pub Within : Lengths → Sheet → ℕ → Stage → Type 0
+Within t s k TrackGreen = ⊥
+Within t s k (TrackYellow p z i) = (z ≡ ToClearance) × (i < t .«track_yellow») × (t .«track_yellow» + t .«track_red» ≤ i + k)
+Within t s k (TrackRed p z i) = (z ≡ ToClearance) × (i < t .«track_red») × (t .«track_red» ≤ i + k)
+Within t s k (Open n g w) = ⊥
+Within t s k (Ending n z l w) = (z ≡ ToClearance) × Left (phaseOf s n) k (Stays l w)
+Within t s k (ClearanceGreen j) = ⊥
+Within t s k Dwell = ⊥
 
 -- with none left it would be over
 abbrev IsOver : Settled → Type 0
 IsOver (Stays l w) = ⊥
 IsOver Over = Prim.Unit {0}
 
-pub none-left : (s : Sheet) (st : Stage) → Coming s 0 st → ⊥
-none-left s TrackGreen h = h
-none-left s (TrackYellow n i) h = omega (arith, h .0, h .1)
-none-left s (TrackRed n i) h = omega (arith, h .0, h .1)
-none-left s (Open n g w) h = h
-none-left s (Ending n m l w) h = subst IsOver (sym (left-none (phaseOf s n) (Stays l w) h)) tt
-none-left s (ClearanceGreen j) h = h
-none-left s (ClearanceYellow j) h = h
-none-left s (ClearanceRed j) h = h
-none-left s Dwell h = h
+pub none-left : (t : Lengths) (s : Sheet) (st : Stage) → Within t s 0 st → ⊥
+none-left t s TrackGreen h = h
+none-left t s (TrackYellow p z i) h = omega (arith, h .1, h .2)
+none-left t s (TrackRed p z i) h = omega (arith, h .1, h .2)
+none-left t s (Open n g w) h = h
+none-left t s (Ending n z l w) h = subst IsOver (sym (left-none (phaseOf s n) (Stays l w) (h .1))) tt
+none-left t s (ClearanceGreen j) h = h
+none-left t s Dwell h = h
 
--- ---- where the transfer begins: whatever was served, line 16 is enough
-module _ (t : Lengths) (u : Unit) (a : accepted (u .sheet) ≡ true) (b : u .count ≡ t .l03) where
-  pub due : (st : Stage) → normalStage st ≡ true → RestsIn t u st → stageFits t (u .sheet) st ≡ true → Coming (u .sheet) (worksheetOf (u .sheet) .lines .l16 .0) st
-  unfolding stageFits normalStage
-  due TrackGreen n r f = absurd (r b)
-  due (TrackYellow m i) n r f = (r, omega (arith, track-time (u .sheet) a))
-  due (TrackRed m i) n r f = (r, omega (arith, track-time (u .sheet) a))
-  due (Open m g w) n r f = absurd (r b)
-  due (Ending m i l w) n r f =
-      let p = phase-told (u .sheet) m l w (both-right (nextFits (u .sheet) i) _ f) in
-      let of = listed-time (u .sheet) a in
-      record {
-        fits = (p .light, p .walker);
-        rests = r;
-        ends = ends-from (phaseOf (u .sheet) m) (listed-fair (u .sheet) a m (p .isListed)) _ (of Vehicles m (p .isListed)) (of Pedestrians m (p .isListed)) l w;
-      }
-  due (ClearanceGreen j) n r f = never n
-  due (ClearanceYellow j) n r f = never n
-  due (ClearanceRed j) n r f = never n
-  due Dwell n r f = never n
+-- it shows, or comes within k ticks
+pub data Next (t : Lengths) (s : Sheet) (k : ℕ) : Stage → Type 0 where
+  shown : Next t s k (ClearanceGreen 0)
+  within : (st : Stage) → Within t s k st → Next t s k st
 
--- ---- one tick's times
-pub data Next (u : Unit) (k : ℕ) : Unit → Type 0 where
-  shown : Next u k (at u (ClearanceGreen 0))
-  coming : (st : Stage) → Coming (u .sheet) k st → Next u k (at u st)
+within-coming : (t : Lengths) (s : Sheet) (k : ℕ) (st : Stage) → Within t s k st → flow.Coming (phaseShown st) st
+within-coming t s k TrackGreen h = h
+within-coming t s k (TrackYellow p z i) h = h .0
+within-coming t s k (TrackRed p z i) h = h .0
+within-coming t s k (Open n g w) h = h
+within-coming t s k (Ending n z l w) h = (h .0, refl)
+within-coming t s k (ClearanceGreen j) h = absurd h
+within-coming t s k Dwell h = h
 
-module _ (t : Lengths) (call : Bool) (u : Unit) (b : u .count ≡ t .l03) (lasts : 0 < t .l51) where
-  over : (k n : ℕ) (st : Stage) → Next u k (settleNext t call (at u st) n)
-  unfolding settleNext starts settleTrackGreen settleClearanceGreen pick
-  over k n st = rw (eq-eqb (u .count) (t .l03) b) (rw (lt-leb (t .l51) 0 lasts) shown)
+next-coming : (t : Lengths) (s : Sheet) (k : ℕ) (st : Stage) → Next t s k st → flow.Coming (phaseShown st) st
+next-coming t s k _ shown = refl
+next-coming t s k st (within _ h) = within-coming t s k st h
 
-  red-next : (k n i : ℕ) (st : Stage) → u .sheet .«track_red» ≤ i + k → Next u k (settleTrackRed t call (at u st) n i)
-  unfolding settleTrackRed
-  red-next k n i st h =
-      cases (Next u k) (leb (u .sheet .«track_red») i) (settleNext t call (at u st) n) (at u (TrackRed n i))
-      (λ e. over k n st) (λ e. coming (TrackRed n i) (leb-false (u .sheet .«track_red») i e, h))
+-- ---- the times
+module _ (t : Lengths) (s : Sheet) (call : Bool) where
+  owed-enter : (z : Then) → z ≡ ToClearance → enter call z ≡ ClearanceGreen 0
+  unfolding enter
+  owed-enter z e = rw e refl
 
-  yellow-next : (k n i : ℕ) (st : Stage) → i ≤ u .sheet .«track_yellow» → u .sheet .«track_yellow» + u .sheet .«track_red» ≤ i + k → Next u k (settleTrackYellow t call (at u st) n i)
-  unfolding settleTrackYellow
-  yellow-next k n i st m h =
-      cases (Next u k) (leb (u .sheet .«track_yellow») i) (settleTrackRed t call (at u st) n 0) (at u (TrackYellow n i))
-      (λ e. red-next k n 0 st (omega arith)) (λ e. coming (TrackYellow n i) (leb-false (u .sheet .«track_yellow») i e, h))
+  enter-next : (k : ℕ) (z : Then) → z ≡ ToClearance → Next t s k (enter call z)
+  enter-next k z e = subst (Next t s k) (sym (owed-enter z e)) shown
 
-  ending-next : (k n m : ℕ) (st : Stage) (x : Settled) → Left (phaseOf (u .sheet) n) k x → Next u k (settledAs t call (at u st) n m x)
+  red-next : (k : ℕ) (p : Place) (z : Then) (i : ℕ) → z ≡ ToClearance → t .«track_red» ≤ i + k → Next t s k (settleRed t call p z i)
+  unfolding settleRed
+  red-next k p z i o h =
+      cases (Next t s k) (leb (t .«track_red») i) (enter call z) (TrackRed p z i)
+      (λ e. enter-next k z o) (λ e. within (TrackRed p z i) (o, leb-false (t .«track_red») i e, h))
+
+  yellow-next : (k : ℕ) (p : Place) (z : Then) (i : ℕ) → z ≡ ToClearance → i ≤ t .«track_yellow» → t .«track_yellow» + t .«track_red» ≤ i + k
+      → Next t s k (settleYellow t call p z i)
+  unfolding settleYellow
+  yellow-next k p z i o m h =
+      cases (Next t s k) (leb (t .«track_yellow») i) (settleRed t call p z 0) (TrackYellow p z i)
+      (λ e. red-next k p z 0 o (omega arith)) (λ e. within (TrackYellow p z i) (o, leb-false (t .«track_yellow») i e, h))
+
+  ending-next : (k n : ℕ) (z : Then) (x : Settled) → z ≡ ToClearance → Left (phaseOf s n) k x → Next t s k (settledAs call n z x)
   unfolding settledAs
-  ending-next k n m st (Stays l w) h = coming (Ending n m l w) h
-  ending-next k n m st Over h = over k m st
+  ending-next k n z (Stays l w) o h = within (Ending n z l w) (o, h)
+  ending-next k n z Over o h = enter-next k z o
 
-  pub next : (k : ℕ) (st : Stage) → Coming (u .sheet) (suc k) st → Next u k (settle t call (at u (addOne t (u .sheet) st)))
-  unfolding addOne settleAt phases.tick
+  next : (k : ℕ) (st : Stage) → Within t s (suc k) st → Next t s k (settle t s call (addOne t s st))
+  unfolding addOne settle phases.tick
   next k TrackGreen h = absurd h
-  next k (TrackYellow n i) h = rw (up-one i (u .sheet .«track_yellow») (h .0)) (yellow-next k n (i + 1) _ (omega (arith, h .0)) (omega (arith, h .1)))
-  next k (TrackRed n i) h = rw (up-one i (u .sheet .«track_red») (h .0)) (red-next k n (i + 1) _ (omega (arith, h .1)))
+  next k (TrackYellow p z i) h = rw (up-one i (t .«track_yellow») (h .1)) (yellow-next k p z (i + 1) (h .0) (omega (arith, h .1)) (omega (arith, h .2)))
+  next k (TrackRed p z i) h = rw (up-one i (t .«track_red») (h .1)) (red-next k p z (i + 1) (h .0) (omega (arith, h .2)))
   next k (Open n g w) h = absurd h
-  next k (Ending n m l w) h = ending-next k n m _ _ (tick-left (phaseOf (u .sheet) n) k (Stays l w) h)
+  next k (Ending n z l w) h = ending-next k n z _ (h .0) (tick-left (phaseOf s n) k (Stays l w) (h .1))
   next k (ClearanceGreen j) h = absurd h
-  next k (ClearanceYellow j) h = absurd h
-  next k (ClearanceRed j) h = absurd h
   next k Dwell h = absurd h
 
-  -- "It lasts line 51 ticks, then track yellow"
-  pub green-goes-on : (j : ℕ) → j + 1 < t .l51 → settle t call (at u (addOne t (u .sheet) (ClearanceGreen j))) ≡ at u (ClearanceGreen (j + 1))
-  unfolding addOne settleAt settleClearanceGreen pick
-  green-goes-on j h = rw (up-one j (t .l51) (omega arith)) (rw (lt-leb (t .l51) (j + 1) h) refl)
+within-added : (t : Lengths) (s : Sheet) (k : ℕ) (st : Stage) → Within t s k st → flow.Coming (phaseShown st) (addOne t s st)
+unfolding addOne
+within-added t s k TrackGreen h = h
+within-added t s k (TrackYellow p z i) h = h .0
+within-added t s k (TrackRed p z i) h = h .0
+within-added t s k (Open n g w) h = h
+within-added t s k (Ending n z l w) h = (h .0, refl)
+within-added t s k (ClearanceGreen j) h = absurd h
+within-added t s k Dwell h = h
 
-  pub green-ends : (j : ℕ) → j + 1 ≡ t .l51 → 0 < u .sheet .«track_yellow»
-      → settle t call (at u (addOne t (u .sheet) (ClearanceGreen j))) ≡ at u (ClearanceYellow 0)
-  unfolding addOne settleAt settleClearanceGreen settleClearanceYellow pick
-  green-ends j h y =
-      rw (up-one j (t .l51) (omega arith)) (rw (le-leb (t .l51) (j + 1) (omega arith)) (rw (lt-leb (u .sheet .«track_yellow») 0 y) refl))
-
--- ---- the rest of the tick
--- no command is taken in these stages
-abbrev Firm : Stage → Type 0
-Firm TrackGreen = ⊥
-Firm (TrackYellow n i) = Prim.Unit {0}
-Firm (TrackRed n i) = Prim.Unit {0}
-Firm (Open n g w) = ⊥
-Firm (Ending n m l w) = Prim.Unit {0}
-Firm (ClearanceGreen j) = Prim.Unit {0}
-Firm (ClearanceYellow j) = Prim.Unit {0}
-Firm (ClearanceRed j) = Prim.Unit {0}
-Firm Dwell = Prim.Unit {0}
-
-firm-allowed : (s : Sheet) (st : Stage) (n : ℕ) → Firm st → allowedAt s st n ≡ false
-unfolding allowedAt
-firm-allowed s TrackGreen n f = absurd f
-firm-allowed s (TrackYellow m i) n f = refl
-firm-allowed s (TrackRed m i) n f = refl
-firm-allowed s (Open m g w) n f = absurd f
-firm-allowed s (Ending m i l w) n f = refl
-firm-allowed s (ClearanceGreen j) n f = refl
-firm-allowed s (ClearanceYellow j) n f = refl
-firm-allowed s (ClearanceRed j) n f = refl
-firm-allowed s Dwell n f = refl
-
-module _ (t : Lengths) (v : Unit) (b : v .count ≡ t .l03) (r : Rests t v) (f : Firm (v .stage)) where
-  unheard : (c : Command) → heard v c ≡ None
-  unfolding heard allowed pick
-  unheard None = refl
-  unheard (End n) = rw (firm-allowed (v .sheet) (v .stage) n f) refl
-
-  obeyed-none : obeyed v None ≡ v
-  unfolding obeyed
-  obeyed-none = refl
-
-  -- the transfer has begun, and dwell is not left with the call on
-  unread : readCall t true v ≡ v
-  unfolding readCall inNormal dwellEnds pick
-  unread = rw (eq-eqb (v .count) (t .l03) b) refl
-
-  pub quiet : (c : Command) → afterCall t true (afterCommand t c true v) ≡ v
-  quiet c =
-      let same = rests-settled t true v r in
-      let command = ap (λ (d : Command). settle t true (obeyed v d)) (unheard c) ∙ ap (λ (w : Unit). settle t true w) obeyed-none ∙ same in
-      ap (λ (w : Unit). afterCall t true w) command ∙ ap (λ (w : Unit). settle t true w) unread ∙ same
-
--- what has come rests
-coming-rests : (t : Lengths) (u : Unit) (k : ℕ) (st : Stage) → Coming (u .sheet) k st → RestsIn t (at u st) st × Firm st
-coming-rests t u k TrackGreen h = absurd h
-coming-rests t u k (TrackYellow n i) h = (h .0, tt)
-coming-rests t u k (TrackRed n i) h = (h .0, tt)
-coming-rests t u k (Open n g w) h = absurd h
-coming-rests t u k (Ending n m l w) h = (h .rests, tt)
-coming-rests t u k (ClearanceGreen j) h = absurd h
-coming-rests t u k (ClearanceYellow j) h = absurd h
-coming-rests t u k (ClearanceRed j) h = absurd h
-coming-rests t u k Dwell h = absurd h
-
--- ---- after the green
-abbrev pub Done : Stage → Type 0
-Done TrackGreen = ⊥
-Done (TrackYellow n i) = ⊥
-Done (TrackRed n i) = ⊥
-Done (Open n g w) = ⊥
-Done (Ending n m l w) = ⊥
-Done (ClearanceGreen j) = ⊥
-Done (ClearanceYellow j) = Prim.Unit {0}
-Done (ClearanceRed j) = Prim.Unit {0}
-Done Dwell = Prim.Unit {0}
-
-done-firm : (st : Stage) → Done st → Firm st
-done-firm TrackGreen d = d
-done-firm (TrackYellow n i) d = tt
-done-firm (TrackRed n i) d = tt
-done-firm (Open n g w) d = d
-done-firm (Ending n m l w) d = tt
-done-firm (ClearanceGreen j) d = tt
-done-firm (ClearanceYellow j) d = tt
-done-firm (ClearanceRed j) d = tt
-done-firm Dwell d = tt
-
-pub data Passes (u : Unit) : Unit → Type 0 where
-  passes : (st : Stage) → Done st → Passes u (at u st)
-
-module _ (t : Lengths) (u : Unit) (x : Stage) where
-  red-passes : (k : ℕ) → Passes u (settleClearanceRed true (at u x) k)
-  unfolding settleClearanceRed afterClearance pick
-  red-passes k = cases (Passes u) (leb (u .sheet .«track_red») k) (at u Dwell) (at u (ClearanceRed k)) (λ e. passes Dwell tt) (λ e. passes (ClearanceRed k) tt)
-
-  yellow-passes : (k : ℕ) → Passes u (settleClearanceYellow true (at u x) k)
-  unfolding settleClearanceYellow
-  yellow-passes k =
-      cases (Passes u) (leb (u .sheet .«track_yellow») k) (settleClearanceRed true (at u x) 0) (at u (ClearanceYellow k))
-      (λ e. red-passes 0) (λ e. passes (ClearanceYellow k) tt)
-
-  -- with the call on, track yellow, red and dwell follow one another
-  done-passes : (st : Stage) → Done st → Passes u (settleAt t true (at u x) (addOne t (u .sheet) st))
-  unfolding addOne settleAt
-  done-passes TrackGreen d = absurd d
-  done-passes (TrackYellow n i) d = absurd d
-  done-passes (TrackRed n i) d = absurd d
-  done-passes (Open n g w) d = absurd d
-  done-passes (Ending n m l w) d = absurd d
-  done-passes (ClearanceGreen j) d = absurd d
-  done-passes (ClearanceYellow j) d = yellow-passes _
-  done-passes (ClearanceRed j) d = red-passes _
-  done-passes Dwell d = passes Dwell tt
-
--- ---- whole ticks of a unit in the transfer and in the green, with the call on
-module _ (t : Lengths) (u : Unit) (c : Command) (b : u .count ≡ t .l03) (lasts : 0 < t .l51) where
-  next-quiet : (k : ℕ) (v : Unit) → Next u k v → afterCall t true (afterCommand t c true v) ≡ v
-  next-quiet k v shown = quiet t (at u (ClearanceGreen 0)) b lasts tt c
-  next-quiet k v (coming st h) = let r = coming-rests t u k st h in quiet t (at u st) b (r .0) (r .1) c
-
-  pub next-tick : (k : ℕ) → Coming (u .sheet) (suc k) (u .stage) → Next u k (ticked t u c true .unit)
+-- ---- a tick of the stage in which it is owed
+module _ (t : Lengths) (s : Sheet) (c : Command) (call : Bool) (x : Now) (lasts : 0 < t .l51) where
+  pub next-tick : (k : ℕ) → Within t s (suc k) (x .stage) → Next t s k (endOf t s c call x)
   next-tick k h =
-      let n = next t true u b lasts k (u .stage) h in
-      subst (Next u k) (sym (next-quiet k _ n)) n
+      let first : afterTimes t s call x ≡ settle t s call (addOne t s (x .stage)) =
+      ap (settle t s call) (flow.overdue-coming t (x .count) (phaseShown (x .stage)) (addOne t s (x .stage)) (within-added t s (suc k) (x .stage) h)) in
+      let a : Next t s k (afterTimes t s call x) = subst (Next t s k) (sym first) (next t s call k (x .stage) h) in
+      let st = afterTimes t s call x in
+      subst (Next t s k) (sym (flow.through t s c call x (phaseShown st) st (next-coming t s k st a) (nothing-due t s call _ lasts))) a
 
-  pub green-tick : (j : ℕ) → j + 1 < t .l51 → ticked t (at u (ClearanceGreen j)) c true .unit ≡ at u (ClearanceGreen (j + 1))
-  green-tick j h =
-      ap (λ (v : Unit). afterCall t true (afterCommand t c true v)) (green-goes-on t true u b lasts j h)
-      ∙ quiet t (at u (ClearanceGreen (j + 1))) b h tt c
+-- ---- a stage that is not of normal operation: the call is not counted in it, and left on it changes nothing
+module _ (t : Lengths) (s : Sheet) (x : Now) (away : inNormal (x .stage) ≡ false) where
+  not-counting : counting t x ≡ false
+  not-counting = uncounted t (x .stage) (x .count) away
 
-  pub last-tick : (j : ℕ) → j + 1 ≡ t .l51 → 0 < u .sheet .«track_yellow» → ticked t (at u (ClearanceGreen j)) c true .unit ≡ at u (ClearanceYellow 0)
-  last-tick j h y =
-      ap (λ (v : Unit). afterCall t true (afterCommand t c true v)) (green-ends t true u b lasts j h y)
-      ∙ quiet t (at u (ClearanceYellow 0)) b y tt c
+  left-on : (st : Stage) → called t true (counting t x) (x .count) st ≡ st
+  unfolding called begins pick
+  left-on st = rw not-counting refl
 
-  pass-quiet : (v : Unit) → Passes u v → Rests t v → afterCall t true (afterCommand t c true v) ≡ v
-  pass-quiet v (passes st d) r = quiet t (at u st) b r (done-firm st d) c
+  -- the first step, and the two that follow it where no command is taken
+  pub goes-on : (c : Command) (later st : Stage) → addOne t s (x .stage) ≡ later → inNormal later ≡ false → settle t s true later ≡ st
+      → flow.Firm st → Rests t s st → endOf t s c true x ≡ st
+  goes-on c later st e n q f r =
+      let first : afterTimes t s true x ≡ st =
+      ap (λ (v : Stage). settle t s true (overdue t (x .count) v)) e ∙ ap (settle t s true) (on-time t (x .count) later n) ∙ q in
+      ap (λ (v : Stage). afterCall t s true x (afterCommand t s c true v)) first
+      ∙ ap (λ (v : Stage). afterCall t s true x v) (flow.unmoved t s c true st f r)
+      ∙ ap (settle t s true) (left-on st) ∙ kept t s true st r
 
-  pub done-tick : 0 < t .l03 → Done (u .stage) → Passes u (ticked t u c true .unit)
-  done-tick p d =
-      let v = at u (addOne t (u .sheet) (u .stage)) in
-      let h : Passes u (settle t true v) = done-passes t u (addOne t (u .sheet) (u .stage)) (u .stage) d in
-      subst (Passes u) (sym (pass-quiet _ h (nothing-due t true v p))) h
+-- ---- while it shows
+green-away : (j : ℕ) → inNormal (ClearanceGreen j) ≡ false
+unfolding inNormal
+green-away j = refl
+
+module _ (t : Lengths) (s : Sheet) (c : Command) (i j : ℕ) where
+  green-later : j < t .l51 → addOne t s (ClearanceGreen j) ≡ ClearanceGreen (j + 1)
+  unfolding addOne
+  green-later h = ap ClearanceGreen (up-one j (t .l51) h)
+
+  pub green-tick : j + 1 < t .l51 → endOf t s c true (now (ClearanceGreen j) i) ≡ ClearanceGreen (j + 1)
+  green-tick h =
+      goes-on t s (now (ClearanceGreen j) i) (green-away j) c (ClearanceGreen (j + 1)) (ClearanceGreen (j + 1)) (green-later (omega arith)) (green-away (j + 1))
+      (kept t s true (ClearanceGreen (j + 1)) h) tt h
+
+-- ---- it has shown: track yellow and red follow, then dwell, and none is owed
+abbrev pub Shown : Stage → Type 0
+Shown TrackGreen = ⊥
+Shown (TrackYellow p z k) = z ≡ ToDwell
+Shown (TrackRed p z k) = z ≡ ToDwell
+Shown (Open n g w) = ⊥
+Shown (Ending n z l w) = ⊥
+Shown (ClearanceGreen k) = ⊥
+Shown Dwell = Prim.Unit {0}
+
+dwell-away : (p : Place) (z : Then) → z ≡ ToDwell → normalBefore p z ≡ false
+unfolding normalBefore staysNormal
+dwell-away Normal z e = ap staysNormal e
+dwell-away Train z e = refl
+
+shown-away : (st : Stage) → Shown st → inNormal st ≡ false
+unfolding inNormal
+shown-away TrackGreen h = absurd h
+shown-away (TrackYellow p z k) h = dwell-away p z h
+shown-away (TrackRed p z k) h = dwell-away p z h
+shown-away (Open n g w) h = absurd h
+shown-away (Ending n z l w) h = absurd h
+shown-away (ClearanceGreen k) h = absurd h
+shown-away Dwell h = refl
+
+shown-firm : (st : Stage) → Shown st → flow.Firm st
+shown-firm TrackGreen h = h
+shown-firm (TrackYellow p z k) h = tt
+shown-firm (TrackRed p z k) h = tt
+shown-firm (Open n g w) h = h
+shown-firm (Ending n z l w) h = tt
+shown-firm (ClearanceGreen k) h = tt
+shown-firm Dwell h = tt
+
+shown-later : (t : Lengths) (s : Sheet) (st : Stage) → Shown st → Shown (addOne t s st)
+unfolding addOne
+shown-later t s TrackGreen h = h
+shown-later t s (TrackYellow p z k) h = h
+shown-later t s (TrackRed p z k) h = h
+shown-later t s (Open n g w) h = h
+shown-later t s (Ending n z l w) h = h
+shown-later t s (ClearanceGreen k) h = absurd h
+shown-later t s Dwell h = h
+
+module _ (t : Lengths) (s : Sheet) where
+  enter-shown : (z : Then) → z ≡ ToDwell → Shown (enter true z)
+  unfolding enter pick
+  enter-shown z e = subst (λ (y : Then). Shown (enter true y)) (sym e) tt
+
+  red-shown : (p : Place) (z : Then) (k : ℕ) → z ≡ ToDwell → Shown (settleRed t true p z k)
+  unfolding settleRed
+  red-shown p z k e = cases Shown (leb (t .«track_red») k) (enter true z) (TrackRed p z k) (λ b. enter-shown z e) (λ b. e)
+
+  yellow-shown : (p : Place) (z : Then) (k : ℕ) → z ≡ ToDwell → Shown (settleYellow t true p z k)
+  unfolding settleYellow
+  yellow-shown p z k e =
+      cases Shown (leb (t .«track_yellow») k) (settleRed t true p z 0) (TrackYellow p z k) (λ b. red-shown p z 0 e) (λ b. e)
+
+  settle-shown : (st : Stage) → Shown st → Shown (settle t s true st)
+  unfolding settle
+  settle-shown TrackGreen h = h
+  settle-shown (TrackYellow p z k) h = yellow-shown p z k h
+  settle-shown (TrackRed p z k) h = red-shown p z k h
+  settle-shown (Open n g w) h = h
+  settle-shown (Ending n z l w) h = absurd h
+  settle-shown (ClearanceGreen k) h = absurd h
+  settle-shown Dwell h = h
+
+  -- the last tick of line 51
+  green-over : (k : ℕ) → t .l51 ≤ k → Shown (settle t s true (ClearanceGreen k))
+  unfolding settle settleGreen pick
+  green-over k h = rw (le-leb (t .l51) k h) (yellow-shown Train ToDwell 0 refl)
+
+  module _ (lasts : 0 < t .l51) (c : Command) where
+    -- the stage comes to one in which green has shown
+    ends-shown : (x : Now) (later : Stage) → inNormal (x .stage) ≡ false → addOne t s (x .stage) ≡ later → inNormal later ≡ false
+        → Shown (settle t s true later) → Shown (endOf t s c true x)
+    ends-shown x later a e n h =
+        subst Shown (sym (goes-on t s x a c later (settle t s true later) e n refl (shown-firm (settle t s true later) h) (nothing-due t s true later lasts))) h
+
+    pub shown-tick : (x : Now) → Shown (x .stage) → Shown (endOf t s c true x)
+    shown-tick x h =
+        let l = shown-later t s (x .stage) h in
+        ends-shown x (addOne t s (x .stage)) (shown-away (x .stage) h) refl (shown-away (addOne t s (x .stage)) l) (settle-shown (addOne t s (x .stage)) l)
+
+    pub last-tick : (i j : ℕ) → j + 1 ≡ t .l51 → Shown (endOf t s c true (now (ClearanceGreen j) i))
+    last-tick i j e =
+        ends-shown (now (ClearanceGreen j) i) (ClearanceGreen (j + 1)) (green-away j) (green-later t s c i j (omega arith)) (green-away (j + 1))
+        (green-over (j + 1) (omega arith))
+
+-- ---- the tick on which the call has been on for line 3 ticks: line 16 is enough for whatever shows
+module _ (t : Lengths) (s : Sheet) (a : accepted s ≡ true) (lasts : 0 < t .l51) where
+  abbrev l16 : ℕ
+  l16 = worksheetOf s .lines .l16 .0
+
+  green-now : (call : Bool) → settle t s call (ClearanceGreen 0) ≡ ClearanceGreen 0
+  green-now call = kept t s call (ClearanceGreen 0) lasts
+
+  phase-left : (n : ℕ) (l : Light) (w : Walker) → phaseFits s n l w ≡ true → Left (phaseOf s n) l16 (settlePhase (phaseOf s n) l w)
+  phase-left n l w e =
+      let f = phase-told s n l w e in
+      let of = listed-time s a in
+      settle-left (phaseOf s n) l16 l w (f .light) (f .walker)
+      (ends-from (phaseOf s n) (listed-fair s a n (f .isListed)) l16 (of Vehicles n (f .isListed)) (of Pedestrians n (f .isListed)) l w)
+
+  pub due : t .«track_yellow» + t .«track_red» ≤ l16 → (call : Bool) (st : Stage) → Rests t s st → stageFits t s st ≡ true → Next t s l16 (settle t s call (answered st))
+  unfolding answered settle stageFits
+  due track call TrackGreen r f = subst (Next t s l16) (sym (green-now call)) shown
+  due track call (TrackYellow p z k) r f = yellow-next t s call l16 p ToClearance k refl (omega arith) (omega arith)
+  due track call (TrackRed p z k) r f = red-next t s call l16 p ToClearance k refl (omega arith)
+  due track call (Open n g w) r f = ending-next t s call l16 n ToClearance _ refl (phase-left n (Green g) (Walk w) f)
+  due track call (Ending n z l w) r f = ending-next t s call l16 n ToClearance _ refl (phase-left n l w (both-right (thenFits s z) _ f))
+  due track call (ClearanceGreen k) r f = subst (Next t s l16) (sym (green-now call)) shown
+  due track call Dwell r f = subst (Next t s l16) (sym (green-now call)) shown

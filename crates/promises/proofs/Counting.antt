@@ -1,99 +1,119 @@
--- A tick that sees the call on before line 3 is reached counts one more: normal operation goes on, or track clearance green shows where the
--- count is now line 3. Assumes nothing.
+-- While a call is counted the unit stays in normal operation: each step of the tick does. Assumes nothing.
 use Prim.Native.Nat.{ℕ, _+_, _<_}
-use mathlib.Core.Bool.{true}
-use mathlib.Core.Path.{_≡_, refl, sym, subst}
+use mathlib.Core.Bool.{Bool, true, false}
+use mathlib.Core.Path.{_≡_, refl, sym, ap, _∙_}
 use native.Mathlib.Omega.{arith}
-use borrow.Author.Tests.{ne-eqb, lt-ltb}
+use lib.Dec.{leb, eqb}
+use borrow.Author.Tests.{ne-eqb}
 use Rattle.units.specs.Numbers.{pick}
-use Rattle.units.proofs.Steps.{cases}
+use Rattle.units.proofs.Steps.{cases, never}
 use Rattle.sheet.specs.declared.Sheet.{Sheet}
-use Rattle.phase.specs.Times.{oneMore}
+use Rattle.phase.specs.declared.Settled.{Settled}
+use Rattle.phase.specs.declared.Settled.the-variants.{Stays, Over}
+use Rattle.phase.specs.Ending.{settlePhase}
+use Rattle.stage.specs.declared.Command.{Command}
+use Rattle.stage.specs.declared.Command.the-variants.{None, End}
 use Rattle.stage.specs.declared.Lengths.{Lengths}
+use Rattle.stage.specs.declared.Place.{Place}
+use Rattle.stage.specs.declared.Place.the-variants.{Normal, Train}
 use Rattle.stage.specs.declared.Stage.{Stage}
-use Rattle.stage.specs.declared.Stage.the-variants.{TrackGreen, TrackYellow, TrackRed, Open, Ending, ClearanceGreen, ClearanceYellow, ClearanceRed, Dwell}
-use Rattle.stage.specs.Commands.{ended}
-use Rattle.stage.specs.Shown.{normalStage}
+use Rattle.stage.specs.declared.Stage.the-variants.{TrackGreen, TrackYellow, TrackRed, Open, Ending, ClearanceGreen, Dwell}
+use Rattle.stage.specs.declared.Then.{Then}
+use Rattle.stage.specs.declared.Then.the-variants.{ToTrack, ToPhase, ToClearance, ToDwell}
+use Rattle.stage.specs.Commands.{next, ended, obeyed}
+use Rattle.stage.specs.Listed.{phaseOf}
+use Rattle.stage.specs.Shown.{inNormal, normalBefore, staysNormal}
 use Rattle.stage.specs.Times.{addOne}
-use Rattle.unit.specs.declared.Command.{Command}
-use Rattle.unit.specs.declared.Command.the-variants.{None, End}
-use Rattle.unit.specs.declared.Unit.{Unit}
-use Rattle.unit.specs.Settling.{at, settle}
-use Rattle.unit.specs.Commands.{allowed, heard, obeyed}
-use Rattle.unit.specs.Calls.{inNormal, countTo, readCall}
-use Rattle.unit.specs.Unit.{ticked}
-use Rattle.promises.proofs.Flow.{Flows, stays, turns, flows}
+use Rattle.flow.specs.declared.Now.{Now}
+use Rattle.flow.specs.Calls.{counting, answered, becomes, begins, called, overdue}
+use Rattle.flow.specs.Settling.{enter, settleRed, settleYellow, settledAs, settle}
+use Rattle.flow.specs.Tick.{heard, afterTimes, afterCommand, endOf}
+use Rattle.flow.proofs.Transfer.{normal-added}
 
-pub up-one : (k n : ℕ) → k < n → oneMore k n ≡ k + 1
-unfolding oneMore pick
-up-one k n h = rw (lt-ltb k n h) refl
+abbrev Normally : Stage → Type 0
+Normally st = inNormal st ≡ true
 
-add-normal : (t : Lengths) (s : Sheet) (st : Stage) → normalStage st ≡ true → normalStage (addOne t s st) ≡ true
-unfolding addOne normalStage
-add-normal t s TrackGreen n = n
-add-normal t s (TrackYellow m k) n = n
-add-normal t s (TrackRed m k) n = n
-add-normal t s (Open m g w) n = n
-add-normal t s (Ending m i l w) n = n
-add-normal t s (ClearanceGreen k) n = n
-add-normal t s (ClearanceYellow k) n = n
-add-normal t s (ClearanceRed k) n = n
-add-normal t s Dwell n = n
+before-stays : (p : Place) (z : Then) → normalBefore p z ≡ true → staysNormal z ≡ true
+unfolding normalBefore
+before-stays Normal z e = e
+before-stays Train z e = never e
 
-ended-normal : (m : ℕ) (st : Stage) → normalStage st ≡ true → normalStage (ended m st) ≡ true
-unfolding ended normalStage
-ended-normal m TrackGreen n = n
-ended-normal m (TrackYellow i k) n = n
-ended-normal m (TrackRed i k) n = n
-ended-normal m (Open i g w) n = n
-ended-normal m (Ending i j l w) n = n
-ended-normal m (ClearanceGreen k) n = n
-ended-normal m (ClearanceYellow k) n = n
-ended-normal m (ClearanceRed k) n = n
-ended-normal m Dwell n = n
+-- ---- settling
+module _ (t : Lengths) (s : Sheet) (call : Bool) where
+  enter-normal : (z : Then) → staysNormal z ≡ true → Normally (enter call z)
+  unfolding enter staysNormal inNormal
+  enter-normal ToTrack e = refl
+  enter-normal (ToPhase n) e = refl
+  enter-normal ToClearance e = never e
+  enter-normal ToDwell e = never e
 
--- the unit with the call seen once more
-abbrev pub once : Unit → Stage → Unit
-once u st = record { sheet = u .sheet; stage = st; count = u .count + 1 }
+  red-normal : (p : Place) (z : Then) (k : ℕ) → normalBefore p z ≡ true → Normally (settleRed t call p z k)
+  unfolding settleRed inNormal
+  red-normal p z k e =
+      cases Normally (leb (t .«track_red») k) (enter call z) (TrackRed p z k) (λ b. enter-normal z (before-stays p z e)) (λ b. e)
 
-pub data Counted (t : Lengths) (u : Unit) : Unit → Type 0 where
-  on : (st : Stage) → normalStage st ≡ true → Counted t u (once u st)
-  turned : u .count + 1 ≡ t .l03 → Counted t u (once u (ClearanceGreen 0))
+  yellow-normal : (p : Place) (z : Then) (k : ℕ) → normalBefore p z ≡ true → Normally (settleYellow t call p z k)
+  unfolding settleYellow inNormal
+  yellow-normal p z k e =
+      cases Normally (leb (t .«track_yellow») k) (settleRed t call p z 0) (TrackYellow p z k) (λ b. red-normal p z 0 e) (λ b. e)
 
--- u with another stage of normal operation
-data Normal (u : Unit) : Unit → Type 0 where
-  normal : (st : Stage) → normalStage st ≡ true → Normal u (at u st)
+  settled-normal : (n : ℕ) (z : Then) (x : Settled) → normalBefore Normal z ≡ true → Normally (settledAs call n z x)
+  unfolding settledAs inNormal
+  settled-normal n z (Stays l w) e = e
+  settled-normal n z Over e = enter-normal z (before-stays Normal z e)
 
-module _ (t : Lengths) (u : Unit) (lasts : 0 < t .l51) (less : u .count < t .l03) where
-  still-normal : (st : Stage) (v : Unit) → Flows t (at u st) v → Normal u v
-  still-normal st v (stays x n) = normal x n
-  still-normal st v (turns e) = absurd (omega arith)
+  settle-normal : (st : Stage) → Normally st → Normally (settle t s call st)
+  unfolding settle inNormal
+  settle-normal TrackGreen e = e
+  settle-normal (TrackYellow p z k) e = yellow-normal p z k e
+  settle-normal (TrackRed p z k) e = red-normal p z k e
+  settle-normal (Open n g w) e = e
+  settle-normal (Ending n z l w) e = settled-normal n z (settlePhase (phaseOf s n) l w) e
+  settle-normal (ClearanceGreen k) e = never e
+  settle-normal Dwell e = e
 
-  settled : (v : Unit) → Normal u v → Normal u (settle t true v)
-  settled v (normal st n) = still-normal st _ (flows t true (at u st) lasts st n)
+-- ---- the command
+next-normal : (n : ℕ) → normalBefore Normal (next n) ≡ true
+unfolding normalBefore next staysNormal
+next-normal n = cases (λ (z : Then). staysNormal z ≡ true) (eqb n 0) ToTrack (ToPhase n) (λ e. refl) (λ e. refl)
 
-  obeyed-normal : (c : Command) (v : Unit) → Normal u v → Normal u (obeyed v c)
-  unfolding obeyed
-  obeyed-normal None v h = h
-  obeyed-normal (End m) v (normal st n) = normal (ended m st) (ended-normal m st n)
+ended-normal : (n : ℕ) (st : Stage) → Normally st → Normally (ended n st)
+unfolding ended inNormal normalBefore staysNormal
+ended-normal n TrackGreen e = refl
+ended-normal n (TrackYellow p z k) e = e
+ended-normal n (TrackRed p z k) e = e
+ended-normal n (Open m g w) e = next-normal n
+ended-normal n (Ending m z l w) e = e
+ended-normal n (ClearanceGreen k) e = e
+ended-normal n Dwell e = e
 
-  heard-normal : (c : Command) (v : Unit) → Normal u v → Normal u (obeyed v (heard v c))
-  unfolding heard
-  heard-normal c v h = cases (λ (d : Command). Normal u (obeyed v d)) (allowed v c) c None (λ e. obeyed-normal c v h) (λ e. obeyed-normal None v h)
+obeyed-normal : (st : Stage) (c : Command) → Normally st → Normally (obeyed st c)
+unfolding obeyed
+obeyed-normal st None e = e
+obeyed-normal st (End n) e = ended-normal n st e
 
-  read : (st : Stage) → normalStage st ≡ true → readCall t true (at u st) ≡ once u st
-  unfolding readCall inNormal countTo pick
-  read st n = rw (ne-eqb (u .count) (t .l03) (λ e. omega arith), n, up-one (u .count) (t .l03) less) refl
+-- ---- a tick that does not bring the count to line 3
+module _ (t : Lengths) (s : Sheet) (x : Now) (c : Command) (normal : Normally (x .stage)) (less : x .count < t .l03) where
+  pub counts : counting t x ≡ true
+  unfolding counting pick
+  counts = rw (ne-eqb (x .count) (t .l03) (λ e. omega arith)) normal
 
-  by-flow : (st : Stage) (v : Unit) → Flows t (once u st) v → Counted t u v
-  by-flow st v (stays x n) = on x n
-  by-flow st v (turns e) = turned e
+  not-overdue : (st : Stage) → overdue t (x .count) st ≡ st
+  unfolding overdue pick
+  not-overdue st = rw (ne-eqb (x .count) (t .l03) (λ e. omega arith)) refl
 
-  call-counted : (v : Unit) → Normal u v → Counted t u (settle t true (readCall t true v))
-  call-counted v (normal st n) =
-      subst (λ (w : Unit). Counted t u (settle t true w)) (sym (read st n)) (by-flow st _ (flows t true (once u st) lasts st n))
+  first-normal : (call : Bool) → Normally (afterTimes t s call x)
+  first-normal call =
+      settle-normal t s call _ (ap inNormal (not-overdue (addOne t s (x .stage))) ∙ normal-added t s (x .stage) ∙ normal)
 
-  pub counted-tick : (c : Command) → normalStage (u .stage) ≡ true → Counted t u (ticked t u c true .unit)
-  counted-tick c n =
-      let first = settled _ (normal (addOne t (u .sheet) (u .stage)) (add-normal t (u .sheet) (u .stage) n)) in
-      call-counted _ (settled _ (heard-normal c _ first))
+  second-normal : (call : Bool) → Normally (afterCommand t s c call (afterTimes t s call x))
+  second-normal call = settle-normal t s call _ (obeyed-normal (afterTimes t s call x) (heard s (afterTimes t s call x) c) (first-normal call))
+
+  still-on : (counted : Bool) (st : Stage) → (x .count + 1 ≡ t .l03 → ⊥) → called t true counted (x .count) st ≡ st
+  unfolding called begins becomes pick
+  still-on true st n = rw (ne-eqb (x .count + 1) (t .l03) n) refl
+  still-on false st n = refl
+
+  pub normal-tick : (x .count + 1 ≡ t .l03 → ⊥) → Normally (endOf t s c true x)
+  normal-tick n =
+      settle-normal t s true _ (ap inNormal (still-on (counting t x) (afterCommand t s c true (afterTimes t s true x)) n) ∙ second-normal true)

@@ -2,216 +2,256 @@
 use Prim.Native.Nat.{ℕ, zero, suc, _+_, _-_, _≤_, _<_}
 use mathlib.Core.Bool.{Bool, true, false}
 use mathlib.Core.List.{List, [], _∷_}
-use mathlib.Core.Path.{_≡_, refl, sym, subst, _∙_}
+use mathlib.Core.Path.{_≡_, refl, sym, ap, subst, _∙_}
 use native.Mathlib.Omega.{arith}
-use lib.Dec.{ltb}
-use borrow.Author.Tests.{ltb-true, ltb-false}
-use Rattle.units.specs.Numbers.{pick}
-use Rattle.units.proofs.Steps.{split, never}
-use Rattle.lines.specs.Worksheet.{worksheetOf}
+use Rattle.units.proofs.Steps.{never}
 use Rattle.sheet.specs.declared.Sheet.{Sheet}
+use Rattle.sheet.specs.Refusals.{isFine}
+use Rattle.lines.specs.Worksheet.{worksheetOf}
+use Rattle.stage.specs.declared.Command.{Command}
 use Rattle.stage.specs.declared.Stage.{Stage}
-use Rattle.stage.specs.declared.Stage.the-variants.{TrackGreen, TrackYellow, TrackRed, Open, Ending, ClearanceGreen, ClearanceYellow, ClearanceRed, Dwell}
-use Rattle.stage.specs.Shown.{normalStage}
-use Rattle.unit.specs.declared.Command.{Command}
+use Rattle.stage.specs.declared.Stage.the-variants.{TrackGreen, TrackYellow, TrackRed, Open, Ending, ClearanceGreen, Dwell}
+use Rattle.stage.specs.Shown.{inNormal}
+use Rattle.flow.specs.declared.Now.{Now}
+use Rattle.flow.specs.Calls.{counting, answered, called}
+use Rattle.flow.specs.Settling.{settle}
+use Rattle.flow.specs.Tick.{afterTimes, afterCommand, endOf}
+use Rattle.flow.specs.Promises.{now}
+use Rattle.flow.proofs.Counts.{on-counts}
+use Rattle.flow.proofs.Fit.{after-times-fits, after-command-fits}
+use Rattle.flow.proofs.Rest.{nothing-due}
+use Rattle.flow.proofs.Transfer.{begins-now}
 use Rattle.unit.specs.declared.Unit.{Unit}
-use Rattle.unit.specs.Promises.{Rests}
-use Rattle.unit.specs.Runs.{Event, tick, load, answerTo, run}
-use Rattle.unit.specs.Settling.{at}
-use Rattle.unit.specs.Unit.{lengthsOf, fits, ticked, tickOf}
-use Rattle.unit.proofs.Fit.{fits-sheet, fits-told, ticked-fits}
-use Rattle.unit.proofs.Kept.{fits-kept}
-use Rattle.unit.proofs.Rest.{nothing-due}
-use Rattle.promises.specs.Demand.{CallOn, GreenBetween}
-use Rattle.promises.proofs.Sheets.{is-sound, counts, lasts}
-use Rattle.promises.proofs.Counting.{once, Counted, on, turned, counted-tick}
-use Rattle.promises.proofs.Coming.{Coming, none-left, due, Next, shown, coming, Done, Passes, passes, next-tick, green-tick, last-tick, done-tick}
-use Rattle.promises.proofs.Between.{Dark, shown-yet, not-yet, over-yet, later, now, over, unloaded}
+use Rattle.unit.specs.Unit.{lengthsOf, nowOf, holding, fits, tickOf, loadOf}
+use Rattle.unit.specs.Runs.{Event, tick, load}
+use Rattle.unit.proofs.Fit.{fits-sheet, fits-told, onward, tick-is, onward-fits}
+use Rattle.promises.specs.Demand.{CallOn}
+use Rattle.promises.proofs.Between.{GreenBetween, Dark, shown-yet, not-yet, over-yet, later, now as shows-now, over, counted-refuses, elsewhere-refuses, unloaded}
+use Rattle.promises.proofs.Coming.{Within, Next, none-left, next-tick, green-tick, Shown, shown-tick, last-tick, due}
+use Rattle.promises.proofs.Coming.Next.{shown, within}
+use Rattle.promises.proofs.Counting.{counts, normal-tick}
+use Rattle.promises.proofs.Sheets as sheets
 
--- ---- a tick of a unit that fits
-module _ (u : Unit) (c : Command) (call : Bool) (f : fits u ≡ true) where
-  pub tick-is : tickOf u c call .unit ≡ ticked (lengthsOf (u .sheet)) u c call .unit
-  unfolding tickOf pick
-  tick-is = rw f refl
+abbrev pub three : Sheet → ℕ
+three s = lengthsOf s .l03
 
-  pub fits-next : fits (ticked (lengthsOf (u .sheet)) u c call .unit) ≡ true
-  unfolding run answerTo
-  fits-next = subst (λ (v : Unit). fits v ≡ true) tick-is (fits-kept u (tick c call ∷ []) f)
+abbrev pub fiftyOne : Sheet → ℕ
+fiftyOne s = lengthsOf s .l51
 
-  pub sheet-next : ticked (lengthsOf (u .sheet)) u c call .unit .sheet ≡ u .sheet
-  sheet-next = ticked-fits (lengthsOf (u .sheet)) (u .sheet) u c call (fits-told u f) .same
+abbrev pub sixteen : Sheet → ℕ
+sixteen s = worksheetOf s .lines .l16 .0
 
-  rests-next : Rests (lengthsOf (u .sheet)) (ticked (lengthsOf (u .sheet)) u c call .unit)
-  rests-next = nothing-due (lengthsOf (u .sheet)) call _ (counts (u .sheet) (fits-sheet u f))
+pub unit-counts : (u : Unit) → fits u ≡ true → 0 < three (u .sheet)
+unit-counts u f = sheets.counts (u .sheet) (fits-sheet u f)
 
--- ---- after the green none shows again
-done-dark : (st : Stage) → Done st → Dark st
-done-dark TrackGreen d = tt
-done-dark (TrackYellow n i) d = tt
-done-dark (TrackRed n i) d = tt
-done-dark (Open n g w) d = tt
-done-dark (Ending n m l w) d = tt
-done-dark (ClearanceGreen j) d = d
-done-dark (ClearanceYellow j) d = tt
-done-dark (ClearanceRed j) d = tt
-done-dark Dwell d = tt
+pub unit-lasts : (u : Unit) → fits u ≡ true → 0 < fiftyOne (u .sheet)
+unit-lasts u f = sheets.lasts (u .sheet) (fits-sheet u f)
 
-by-pass : (es : List Event) (u : Unit) → ((st : Stage) → fits (at u st) ≡ true → Done st → GreenBetween (at u st) es 0 0)
-    → (v : Unit) → fits v ≡ true → Passes u v → GreenBetween v es 0 0
-by-pass es u rec v f (passes st d) = rec st f d
+-- the green of the unit after a tick is that of the unit that goes on
+as-onward : (u : Unit) (c : Command) (es : List Event) (first last : ℕ) → fits u ≡ true → GreenBetween (onward u c true) es first last
+    → GreenBetween (tickOf u c true .unit) es first last
+as-onward u c es first last f h = subst (λ (v : Unit). GreenBetween v es first last) (sym (tick-is u c true f)) h
 
-done-over : (es : List Event) → CallOn es → (u : Unit) → fits u ≡ true → u .count ≡ lengthsOf (u .sheet) .l03 → Done (u .stage) → GreenBetween u es 0 0
-done-over [] o u f b d = over-yet u (done-dark (u .stage) d)
-done-over (tick c false ∷ es) o u f b d = never (o .0)
-done-over (tick c true ∷ es) o u f b d =
-    let a = fits-sheet u f in
-    let p = done-tick (lengthsOf (u .sheet)) u c b (lasts (u .sheet) a) (counts (u .sheet) a) d in
-    let h = by-pass es u (λ st g e. done-over es (o .1) (at u st) g b e) _ (fits-next u c true f) p in
-    over u c es (subst (λ (v : Unit). GreenBetween v es 0 0) (sym (tick-is u c true f)) h) (done-dark (u .stage) d)
-done-over (load s ∷ es) o u f b d =
-    let p = counts (u .sheet) (fits-sheet u f) in
-    unloaded u s (omega arith) es 0 0 (done-over es o u f b d)
+-- ---- it has shown: none shows again
+shown-dark : (st : Stage) → Shown st → Dark st
+shown-dark TrackGreen d = tt
+shown-dark (TrackYellow p z i) d = tt
+shown-dark (TrackRed p z i) d = tt
+shown-dark (Open n g w) d = tt
+shown-dark (Ending n z l w) d = tt
+shown-dark (ClearanceGreen j) d = d
+shown-dark Dwell d = tt
+
+shown-over : (es : List Event) → CallOn es → (u : Unit) → fits u ≡ true → Shown (u .stage) → GreenBetween u es 0 0
+shown-over [] o u f d = over-yet u (shown-dark (u .stage) d)
+shown-over (tick c false ∷ es) o u f d = never (search (o .0))
+shown-over (tick c true ∷ es) o u f d =
+    let h =
+    shown-over es (o .1) (onward u c true) (onward-fits u c true f)
+    (shown-tick (lengthsOf (u .sheet)) (u .sheet) (unit-lasts u f) c (nowOf u) d) in
+    over u c es (as-onward u c es 0 0 f h) (shown-dark (u .stage) d)
+shown-over (load s ∷ es) o u f d = unloaded u s (elsewhere-refuses u s (λ e. subst Shown e d)) es 0 0 (shown-over es o u f d)
 
 -- ---- in the green: suc r ticks of line 51 are left
-pub green-lasts : (es : List Event) → CallOn es → (u : Unit) (j r : ℕ) → fits (at u (ClearanceGreen j)) ≡ true
-    → u .count ≡ lengthsOf (u .sheet) .l03 → j + suc r ≡ lengthsOf (u .sheet) .l51 → GreenBetween (at u (ClearanceGreen j)) es 0 (suc r)
-green-lasts [] o u j r f b e = shown-yet (at u (ClearanceGreen j)) r (j, refl)
-green-lasts (tick c false ∷ es) o u j r f b e = never (o .0)
-green-lasts (tick c true ∷ es) o u j zero f b e =
-    let a = fits-sheet (at u (ClearanceGreen j)) f in
-    let y = is-sound (u .sheet) a .«track_yellow» .low in
-    let q = last-tick (lengthsOf (u .sheet)) u c b (lasts (u .sheet) a) j (omega arith) (omega arith) in
-    let h = done-over es (o .1) (at u (ClearanceYellow 0)) (subst (λ (v : Unit). fits v ≡ true) q (fits-next (at u (ClearanceGreen j)) c true f)) b tt in
-    now (at u (ClearanceGreen j)) c es 0
-    (subst (λ (v : Unit). GreenBetween v es 0 0) (sym (tick-is (at u (ClearanceGreen j)) c true f ∙ q)) h) (j, refl)
-green-lasts (tick c true ∷ es) o u j (suc r) f b e =
-    let a = fits-sheet (at u (ClearanceGreen j)) f in
-    let q = green-tick (lengthsOf (u .sheet)) u c b (lasts (u .sheet) a) j (omega arith) in
-    let h = green-lasts es (o .1) u (j + 1) r (subst (λ (v : Unit). fits v ≡ true) q (fits-next (at u (ClearanceGreen j)) c true f)) b (omega arith) in
-    now (at u (ClearanceGreen j)) c es (suc r)
-    (subst (λ (v : Unit). GreenBetween v es 0 (suc r)) (sym (tick-is (at u (ClearanceGreen j)) c true f ∙ q)) h) (j, refl)
-green-lasts (load s ∷ es) o u j r f b e =
-    let p = counts (u .sheet) (fits-sheet (at u (ClearanceGreen j)) f) in
-    unloaded (at u (ClearanceGreen j)) s (omega arith) es 0 (suc r) (green-lasts es o u j r f b e)
+abbrev greenAt : Sheet → ℕ → ℕ → Unit
+greenAt s i j = holding s (now (ClearanceGreen j) i)
 
--- ---- the green starts with tick g, and lasts; spent ticks of the call are over
-pub record Greens (l51 : ℕ) (u : Unit) (es : List Event) (spent least most : ℕ) : Type 0 where
+-- any stage but track green
+abbrev Elsewhere : Stage → Type 0
+Elsewhere TrackGreen = ⊥
+Elsewhere (TrackYellow p z i) = Prim.Unit {0}
+Elsewhere (TrackRed p z i) = Prim.Unit {0}
+Elsewhere (Open n g w) = Prim.Unit {0}
+Elsewhere (Ending n z l w) = Prim.Unit {0}
+Elsewhere (ClearanceGreen j) = Prim.Unit {0}
+Elsewhere Dwell = Prim.Unit {0}
+
+green-lasts : (es : List Event) → CallOn es → (s : Sheet) (i j r : ℕ) → fits (greenAt s i j) ≡ true → j + suc r ≡ fiftyOne s → GreenBetween (greenAt s i j) es 0 (suc r)
+green-lasts [] o s i j r f e = shown-yet (greenAt s i j) r (j, refl)
+green-lasts (tick c false ∷ es) o s i j r f e = never (search (o .0))
+green-lasts (tick c true ∷ es) o s i j zero f e =
+    let u = greenAt s i j in
+    let h = shown-over es (o .1) (onward u c true) (onward-fits u c true f) (last-tick (lengthsOf s) s (unit-lasts u f) c i j (omega arith)) in
+    shows-now u c es 0 (as-onward u c es 0 0 f h) (j, refl)
+green-lasts (tick c true ∷ es) o s i j (suc r) f e =
+    let u = greenAt s i j in
+    let m = onward u c true .count in
+    let q : onward u c true ≡ greenAt s m (j + 1) = ap (λ (st : Stage). holding s (now st m)) (green-tick (lengthsOf s) s c i j (omega arith)) in
+    let h = green-lasts es (o .1) s m (j + 1) r (subst (λ (v : Unit). fits v ≡ true) q (onward-fits u c true f)) (omega arith) in
+    shows-now u c es (suc r) (as-onward u c es 0 (suc r) f (subst (λ (v : Unit). GreenBetween v es 0 (suc r)) (sym q) h)) (j, refl)
+green-lasts (load y ∷ es) o s i j r f e =
+    unloaded (greenAt s i j) y (elsewhere-refuses (greenAt s i j) y (λ d. subst Elsewhere d tt)) es 0 (suc r) (green-lasts es o s i j r f e)
+
+-- ---- the green starts with a tick between these, and lasts
+pub record Greens (u : Unit) (es : List Event) (least most : ℕ) : Type 0 where
   pub g : ℕ
-  pub low : least ≤ g + spent
-  pub high : g + spent ≤ most
-  pub green : GreenBetween u es g (g + l51)
+  pub low : least ≤ g
+  pub high : g ≤ most
+  pub green : GreenBetween u es g (g + fiftyOne (u .sheet))
 
--- it starts now
-starts-now : (es : List Event) → CallOn es → (u : Unit) → fits (at u (ClearanceGreen 0)) ≡ true → u .count ≡ lengthsOf (u .sheet) .l03
-    → GreenBetween (at u (ClearanceGreen 0)) es 0 (0 + lengthsOf (u .sheet) .l51)
-starts-now es o u f b =
-    let p = lasts (u .sheet) (fits-sheet (at u (ClearanceGreen 0)) f) in
-    let e : suc (lengthsOf (u .sheet) .l51 - 1) ≡ 0 + lengthsOf (u .sheet) .l51 = omega arith in
-    subst (λ (n : ℕ). GreenBetween (at u (ClearanceGreen 0)) es 0 n) e (green-lasts es o u 0 (lengthsOf (u .sheet) .l51 - 1) f b (omega arith))
+starts-now : (es : List Event) → CallOn es → (s : Sheet) (i k : ℕ) → fits (greenAt s i 0) ≡ true → Greens (greenAt s i 0) es 0 k
+starts-now es o s i k f =
+    let u = greenAt s i 0 in
+    let p = unit-lasts u f in
+    let e : suc (fiftyOne s - 1) ≡ 0 + fiftyOne s = omega arith in
+    record {
+      g = 0;
+      low = omega arith;
+      high = omega arith;
+      green = subst (λ (n : ℕ). GreenBetween u es 0 n) e (green-lasts es o s i 0 (fiftyOne s - 1) f (omega arith));
+    }
 
--- one tick earlier
-earlier : (l51 : ℕ) (u v : Unit) (c : Command) (es : List Event) (spent least most : ℕ) → tickOf u c true .unit ≡ v → Dark (u .stage)
-    → Greens l51 v es (spent + 1) least most → Greens l51 u (tick c true ∷ es) spent least most
-earlier l51 u v c es spent least most q d h =
-    let e : suc (h .g + l51) ≡ suc (h .g) + l51 = omega arith in
-    let after = subst (λ (w : Unit). GreenBetween w es (h .g) (h .g + l51)) (sym q) (h .green) in
+-- one tick earlier: nothing shows before the tick
+earlier : (u : Unit) (c : Command) (es : List Event) (least most : ℕ) → fits u ≡ true → Dark (u .stage)
+    → Greens (onward u c true) es least most → Greens u (tick c true ∷ es) (suc least) (suc most)
+earlier u c es least most f d h =
+    let i = fiftyOne (u .sheet) in
+    let e : suc (h .g + i) ≡ suc (h .g) + i = omega arith in
     record {
       g = suc (h .g);
       low = omega (arith, h .low);
       high = omega (arith, h .high);
-      green = subst (λ (n : ℕ). GreenBetween u (tick c true ∷ es) (suc (h .g)) n) e (later u c es (h .g) (h .g + l51) after d);
+      green =
+          subst (λ (n : ℕ). GreenBetween u (tick c true ∷ es) (suc (h .g)) n) e
+          (later u c es (h .g) (h .g + i) (as-onward u c es (h .g) (h .g + i) f (h .green)) d);
     }
 
--- a load before it
-loaded-before : (l51 : ℕ) (u : Unit) (s : Sheet) (es : List Event) (spent least most : ℕ) → 0 < u .count
-    → Greens l51 u es spent least most → Greens l51 u (load s ∷ es) spent least most
-loaded-before l51 u s es spent least most p h = record { g = h .g; low = h .low; high = h .high; green = unloaded u s p es (h .g) (h .g + l51) (h .green) }
+-- between wider bounds too
+widen : (u : Unit) (es : List Event) (a b l m : ℕ) → b ≤ a → l ≤ m → Greens u es a l → Greens u es b m
+widen u es a b l m p q h = record { g = h .g; low = omega (arith, h .low); high = omega (arith, h .high); green = h .green }
 
--- ---- in the transfer: at most k ticks of the stage are left
-coming-dark : (s : Sheet) (k : ℕ) (st : Stage) → Coming s k st → Dark st
-coming-dark s k TrackGreen h = tt
-coming-dark s k (TrackYellow n i) h = tt
-coming-dark s k (TrackRed n i) h = tt
-coming-dark s k (Open n g w) h = tt
-coming-dark s k (Ending n m l w) h = tt
-coming-dark s k (ClearanceGreen j) h = h
-coming-dark s k (ClearanceYellow j) h = tt
-coming-dark s k (ClearanceRed j) h = tt
-coming-dark s k Dwell h = tt
+-- a load before it, which is refused
+loaded-before : (u : Unit) (s : Sheet) (es : List Event) (least most : ℕ) → isFine (loadOf u s .answer) ≡ false
+    → Greens u es least most → Greens u (load s ∷ es) least most
+loaded-before u s es least most r h =
+    record { g = h .g; low = h .low; high = h .high; green = unloaded u s r es (h .g) (h .g + fiftyOne (u .sheet)) (h .green) }
 
-by-next : (es : List Event) → CallOn es → (u : Unit) (k : ℕ) → u .count ≡ lengthsOf (u .sheet) .l03
-    → ((st : Stage) → fits (at u st) ≡ true → Coming (u .sheet) k st → Greens (lengthsOf (u .sheet) .l51) (at u st) es 0 0 k)
-    → (v : Unit) → fits v ≡ true → Next u k v → Greens (lengthsOf (u .sheet) .l51) v es 0 0 k
-by-next es o u k b rec v f shown = record { g = 0; low = omega arith; high = omega arith; green = starts-now es o u f b }
-by-next es o u k b rec v f (coming st h) = rec st f h
+-- ---- it is owed
+module _ (s : Sheet) (k : ℕ) where
+  within-dark : (st : Stage) → Within (lengthsOf s) s k st → Dark st
+  within-dark TrackGreen h = tt
+  within-dark (TrackYellow p z i) h = tt
+  within-dark (TrackRed p z i) h = tt
+  within-dark (Open n g w) h = tt
+  within-dark (Ending n z l w) h = tt
+  within-dark (ClearanceGreen j) h = h
+  within-dark Dwell h = tt
 
-pub coming-greens : (es : List Event) → CallOn es → (k : ℕ) (u : Unit) → fits u ≡ true → u .count ≡ lengthsOf (u .sheet) .l03
-    → Coming (u .sheet) k (u .stage) → Greens (lengthsOf (u .sheet) .l51) u es 0 0 k
-coming-greens es o zero u f b h = absurd (none-left (u .sheet) (u .stage) h)
-coming-greens [] o (suc k) u f b h =
+  within-elsewhere : (st : Stage) → Within (lengthsOf s) s k st → st ≡ TrackGreen → ⊥
+  within-elsewhere st h e = subst (Within (lengthsOf s) s k) e h
+
+by-next : (es : List Event) → CallOn es → (s : Sheet) (i k : ℕ)
+    → ((st : Stage) → fits (holding s (now st i)) ≡ true → Within (lengthsOf s) s k st → Greens (holding s (now st i)) es 0 k)
+    → (st : Stage) → fits (holding s (now st i)) ≡ true → Next (lengthsOf s) s k st → Greens (holding s (now st i)) es 0 k
+by-next es o s i k rec st f shown = starts-now es o s i k f
+by-next es o s i k rec st f (within _ h) = rec st f h
+
+owed-greens : (es : List Event) → CallOn es → (s : Sheet) (i k : ℕ) (st : Stage)
+    → fits (holding s (now st i)) ≡ true → Within (lengthsOf s) s k st → Greens (holding s (now st i)) es 0 k
+owed-greens es o s i zero st f h = absurd (none-left (lengthsOf s) s st h)
+owed-greens [] o s i (suc k) st f h =
     record {
       g = suc k;
       low = omega arith;
       high = omega arith;
-      green = not-yet u (suc k) (suc k + lengthsOf (u .sheet) .l51) (coming-dark (u .sheet) (suc k) (u .stage) h) (omega arith) (omega arith);
+      green = not-yet (holding s (now st i)) (suc k) (suc k + fiftyOne s) (within-dark s (suc k) st h) (omega arith) (omega arith);
     }
-coming-greens (tick c false ∷ es) o (suc k) u f b h = never (o .0)
-coming-greens (tick c true ∷ es) o (suc k) u f b h =
-    let n = next-tick (lengthsOf (u .sheet)) u c b (lasts (u .sheet) (fits-sheet u f)) k h in
-    let r = by-next es (o .1) u k b (λ st g i. coming-greens es (o .1) k (at u st) g b i) _ (fits-next u c true f) n in
-    earlier _ u _ c es 0 0 (suc k) (tick-is u c true f) (coming-dark (u .sheet) (suc k) (u .stage) h)
-    (record { g = r .g; low = omega arith; high = omega (arith, r .high); green = r .green })
-coming-greens (load s ∷ es) o (suc k) u f b h =
-    let p = counts (u .sheet) (fits-sheet u f) in
-    loaded-before _ u s es 0 0 (suc k) (omega arith) (coming-greens es o (suc k) u f b h)
+owed-greens (tick c false ∷ es) o s i (suc k) st f h = never (search (o .0))
+owed-greens (tick c true ∷ es) o s i (suc k) st f h =
+    let u = holding s (now st i) in
+    let m = onward u c true .count in
+    let r =
+    by-next es (o .1) s m k (owed-greens es (o .1) s m k) (endOf (lengthsOf s) s c true (now st i)) (onward-fits u c true f)
+    (next-tick (lengthsOf s) s c true (now st i) (unit-lasts u f) k h) in
+    widen u (tick c true ∷ es) 1 0 (suc k) (suc k) (omega arith) (omega arith) (earlier u c es 0 k f (within-dark s (suc k) st h) r)
+owed-greens (load y ∷ es) o s i (suc k) st f h =
+    let u = holding s (now st i) in
+    loaded-before u y es 0 (suc k) (elsewhere-refuses u y (within-elsewhere s (suc k) st h)) (owed-greens es o s i (suc k) st f h)
 
--- ---- before the transfer: the call has been counted so often
-normal-dark : (st : Stage) → normalStage st ≡ true → Dark st
-unfolding normalStage
-normal-dark TrackGreen h = tt
-normal-dark (TrackYellow n i) h = tt
-normal-dark (TrackRed n i) h = tt
-normal-dark (Open n g w) h = tt
-normal-dark (Ending n m l w) h = tt
-normal-dark (ClearanceGreen j) h = never h
-normal-dark (ClearanceYellow j) h = tt
-normal-dark (ClearanceRed j) h = tt
-normal-dark Dwell h = tt
+-- ---- the tick on which the call has been on for line 3 ticks
+normal-dark : (st : Stage) → inNormal st ≡ true → Dark st
+unfolding inNormal
+normal-dark TrackGreen e = tt
+normal-dark (TrackYellow p z i) e = tt
+normal-dark (TrackRed p z i) e = tt
+normal-dark (Open n g w) e = tt
+normal-dark (Ending n z l w) e = tt
+normal-dark (ClearanceGreen j) e = never e
+normal-dark Dwell e = tt
 
--- a green between line 3 and line 3 + 16, of the ticks of the call
-abbrev pub InTime : Sheet → Unit → List Event → ℕ → Type 0
-InTime s u es spent =
-    Greens (lengthsOf s .l51) u es spent (lengthsOf s .l03) (lengthsOf s .l03 + worksheetOf s .lines .l16 .0)
+module _ (u : Unit) (c : Command) (f : fits u ≡ true) (n : inNormal (u .stage) ≡ true) (e : u .count + 1 ≡ three (u .sheet)) where
+  pub event-next : Next (lengthsOf (u .sheet)) (u .sheet) (sixteen (u .sheet)) (endOf (lengthsOf (u .sheet)) (u .sheet) c true (nowOf u))
+  event-next =
+      let t = lengthsOf (u .sheet) in
+      let s = u .sheet in
+      let a = fits-sheet u f in
+      let st = afterCommand t s c true (afterTimes t s true (nowOf u)) in
+      let g = after-command-fits t s c true _ (after-times-fits t s true (nowOf u) (fits-told u f .stage)) in
+      let d = due t s a (unit-lasts u f) (sheets.track-time s a) true st (nothing-due t s true _ (unit-lasts u f)) g in
+      let q : called t true (counting t (nowOf u)) (u .count) st ≡ answered st =
+      ap (λ (b : Bool). called t true b (u .count) st) (counts t s (nowOf u) c n (omega arith)) ∙ begins-now t (u .count) st e in
+      subst (λ (v : Stage). Next t s (sixteen s) (settle t s true v)) (sym q) d
 
--- one more tick of the count
-module _ (es : List Event) (o : CallOn es) (u : Unit) (c : Command) (f : fits u ≡ true) (n : normalStage (u .stage) ≡ true) (less : u .count < lengthsOf (u .sheet) .l03)
-    (rec : (st : Stage) → fits (once u st) ≡ true → normalStage st ≡ true → u .count + 1 < lengthsOf (u .sheet) .l03 → InTime (u .sheet) (once u st) es (u .count + 1)) where
-  by-count : (v : Unit) → fits v ≡ true → Rests (lengthsOf (u .sheet)) v → Counted (lengthsOf (u .sheet)) u v → InTime (u .sheet) v es (u .count + 1)
-  by-count v g r (on st m) =
-      split (ltb (u .count + 1) (lengthsOf (u .sheet) .l03))
-      (λ e. rec st g m (ltb-true (u .count + 1) (lengthsOf (u .sheet) .l03) e))
-      (λ e.
-      let b : u .count + 1 ≡ lengthsOf (u .sheet) .l03 = omega (arith, ltb-false (u .count + 1) (lengthsOf (u .sheet) .l03) e) in
-      let d = due (lengthsOf (u .sheet)) (once u st) (fits-sheet u f) b st m r (fits-told (once u st) g .stage) in
-      let h = coming-greens es o _ (once u st) g b d in
-      record { g = h .g; low = omega arith; high = omega (arith, h .high); green = h .green })
-  by-count v g r (turned b) = record { g = 0; low = omega arith; high = omega arith; green = starts-now es o (once u TrackGreen) g b }
+  event-greens : (es : List Event) → CallOn es → Greens u (tick c true ∷ es) 1 (suc (sixteen (u .sheet)))
+  event-greens es o =
+      let s = u .sheet in
+      let m = onward u c true .count in
+      earlier u c es 0 (sixteen s) f (normal-dark (u .stage) n)
+      (by-next es o s m (sixteen s) (owed-greens es o s m (sixteen s)) (endOf (lengthsOf s) s c true (nowOf u)) (onward-fits u c true f) event-next)
 
-  pub count-tick : InTime (u .sheet) u (tick c true ∷ es) (u .count)
-  count-tick =
-      let k = counted-tick (lengthsOf (u .sheet)) u (lasts (u .sheet) (fits-sheet u f)) less c n in
-      earlier _ u _ c es (u .count) _ _ (tick-is u c true f) (normal-dark (u .stage) n) (by-count _ (fits-next u c true f) (rests-next u c true f) k)
+-- ---- before it: suc m ticks of line 3 are left
+one-counted : (u : Unit) (c : Command) → inNormal (u .stage) ≡ true → u .count < three (u .sheet) → onward u c true .count ≡ u .count + 1
+one-counted u c n l = on-counts (lengthsOf (u .sheet)) (u .sheet) (nowOf u) c (counts (lengthsOf (u .sheet)) (u .sheet) (nowOf u) c n l) l
 
-pub counting-greens : (es : List Event) → CallOn es → (u : Unit) → fits u ≡ true → normalStage (u .stage) ≡ true → 0 < u .count
-    → u .count < lengthsOf (u .sheet) .l03 → InTime (u .sheet) u es (u .count)
-counting-greens [] o u f n p less =
+counting-greens : (es : List Event) → CallOn es → (u : Unit) (m : ℕ) → fits u ≡ true → inNormal (u .stage) ≡ true → 0 < u .count
+    → u .count + suc m ≡ three (u .sheet) → Greens u es (suc m) (suc m + sixteen (u .sheet))
+counting-greens [] o u m f n p e =
     record {
-      g = lengthsOf (u .sheet) .l03 - u .count;
+      g = suc m;
       low = omega arith;
       high = omega arith;
-      green = not-yet u (lengthsOf (u .sheet) .l03 - u .count) _ (normal-dark (u .stage) n) (omega arith) (omega arith);
+      green = not-yet u (suc m) (suc m + fiftyOne (u .sheet)) (normal-dark (u .stage) n) (omega arith) (omega arith);
     }
-counting-greens (tick c false ∷ es) o u f n p less = never (o .0)
-counting-greens (tick c true ∷ es) o u f n p less =
-    count-tick es (o .1) u c f n less (λ st g m l. counting-greens es (o .1) (once u st) g m (omega arith) l)
-counting-greens (load s ∷ es) o u f n p less = loaded-before _ u s es (u .count) _ _ p (counting-greens es o u f n p less)
+counting-greens (tick c false ∷ es) o u m f n p e = never (search (o .0))
+counting-greens (tick c true ∷ es) o u zero f n p e =
+    widen u (tick c true ∷ es) 1 1 _ (1 + sixteen (u .sheet)) (omega arith) (omega arith) (event-greens u c f n (omega arith) es (o .1))
+counting-greens (tick c true ∷ es) o u (suc m) f n p e =
+    let q = one-counted u c n (omega arith) in
+    let t = lengthsOf (u .sheet) in
+    widen u (tick c true ∷ es) (suc (suc m)) (suc (suc m)) (suc (suc m + sixteen (u .sheet))) (suc (suc m) + sixteen (u .sheet)) (omega arith) (omega arith)
+    (earlier u c es (suc m) (suc m + sixteen (u .sheet)) f (normal-dark (u .stage) n)
+    (counting-greens es (o .1) (onward u c true) m (onward-fits u c true f) (normal-tick t (u .sheet) (nowOf u) c n (omega arith) (λ d. omega arith)) (omega (arith, q)) (omega (arith, q))))
+counting-greens (load s ∷ es) o u m f n p e =
+    loaded-before u s es (suc m) (suc m + sixteen (u .sheet)) (counted-refuses u s p) (counting-greens es o u m f n p e)
+
+-- the call's first tick
+pub first-tick : (es : List Event) → CallOn es → (u : Unit) (c : Command) (m : ℕ) → fits u ≡ true → inNormal (u .stage) ≡ true
+    → u .count + suc m ≡ three (u .sheet) → Greens u (tick c true ∷ es) (suc m) (suc m + sixteen (u .sheet))
+first-tick es o u c zero f n e =
+    widen u (tick c true ∷ es) 1 1 _ (1 + sixteen (u .sheet)) (omega arith) (omega arith) (event-greens u c f n (omega arith) es o)
+first-tick es o u c (suc m) f n e =
+    let q = one-counted u c n (omega arith) in
+    let t = lengthsOf (u .sheet) in
+    widen u (tick c true ∷ es) (suc (suc m)) (suc (suc m)) (suc (suc m + sixteen (u .sheet))) (suc (suc m) + sixteen (u .sheet)) (omega arith) (omega arith)
+    (earlier u c es (suc m) (suc m + sixteen (u .sheet)) f (normal-dark (u .stage) n)
+    (counting-greens es o (onward u c true) m (onward-fits u c true f) (normal-tick t (u .sheet) (nowOf u) c n (omega arith) (λ d. omega arith)) (omega (arith, q)) (omega (arith, q))))

@@ -1,13 +1,15 @@
 -- The instances of specs/Instances.antt: a run of ticks goes by the lines of the sheet, and what these give is computed. Assumes nothing.
-use Prim.Native.Nat.{ℕ, zero, suc, _≤_, _<_}
-use mathlib.Core.Bool.{true, false}
+use Prim.Native.Nat.{ℕ, zero, suc, _+_, _≤_, _<_}
+use mathlib.Core.Bool.{Bool, true, false}
 use mathlib.Core.List.{List, [], _∷_, _++_}
 use mathlib.Core.Path.{_≡_, refl, sym, ap, subst, _∙_}
+use native.Mathlib.Nat.{le-refl}
 use native.Mathlib.Omega.{arith}
 use lib.Dec.{ltb}
 use lib.ListN.{replicate}
-use borrow.Author.Tests.{ltb-true, ltb-false, ne-eqb}
+use borrow.Author.Tests.{ltb-true, ltb-false}
 use Rattle.units.specs.Numbers.{pick}
+use Rattle.units.specs.declared.Tenths.{Tenths}
 use Rattle.units.proofs.Steps.{split}
 use Rattle.sheet.specs.declared.Answer.the-variants.{Fine}
 use Rattle.sheet.specs.declared.Sheet.{Sheet}
@@ -17,99 +19,77 @@ use Rattle.lines.specs.Cases.{paperSheet}
 use Rattle.lines.specs.Worksheet.{worksheetOf}
 use Rattle.phase.specs.declared.Light.the-variants.{Red}
 use Rattle.phase.specs.declared.Walker.the-variants.{Clearance}
+use Rattle.stage.specs.declared.Command.the-variants.{None}
 use Rattle.stage.specs.declared.Lengths.{Lengths}
+use Rattle.stage.specs.declared.Place.the-variants.{Train}
 use Rattle.stage.specs.declared.Stage.{Stage}
-use Rattle.stage.specs.declared.Stage.the-variants.{TrackGreen, Ending, ClearanceGreen, ClearanceYellow}
-use Rattle.stage.specs.Shown.{normalStage}
-use Rattle.unit.specs.declared.Command.the-variants.{None}
+use Rattle.stage.specs.declared.Stage.the-variants.{TrackGreen, TrackYellow, Ending, ClearanceGreen}
+use Rattle.stage.specs.declared.Then.the-variants.{ToClearance, ToDwell}
+use Rattle.stage.specs.Shown.{inNormal}
+use Rattle.flow.specs.declared.Now.{Now}
+use Rattle.flow.specs.Promises.{now}
+use Rattle.flow.specs.Tick.{ticked}
 use Rattle.unit.specs.declared.Unit.{Unit}
-use Rattle.unit.specs.Calls.{inNormal}
 use Rattle.unit.specs.Runs.{Event, tick, load, answerTo, run}
-use Rattle.unit.specs.Unit.{lengthsOf, accepted, fits, ticked, fresh, started, startOf}
-use Rattle.unit.proofs.Fit.{fresh-fits}
+use Rattle.unit.specs.Unit.{lengthsOf, accepted, nowOf, holding, fits, fresh, started, startOf}
+use Rattle.unit.proofs.Fit.{fresh-fits, onward, tick-is, onward-fits}
 use Rattle.unit.proofs.Kept.{fits-kept}
-use Rattle.promises.specs.Demand.{lines, Ready, CallOn, ticksIn, upTo, atEnd, Answered}
-use Rattle.promises.specs.Instances.{calls, towardsFour, atTrack, beforeFour, StartsWith, MetInTrackGreen, MetInPhaseFour, tight, EndsAtForty, StartsAtSeventeen, goesOff, MustStayOn, MustBegin, NotInTransfer, stepped, steppedAt, clearsBy, WithoutSix, phasesOf, asYellowStarts, WithoutTen}
-use Rattle.promises.proofs.Computed.{paper, tightly, worked, shown, walked}
+use Rattle.promises.specs.Demand.{line, line17, line51, line53, seenOn, MayBegin, CallOn, ticksIn, upTo, atEnd, Demanded}
+use Rattle.promises.specs.Instances.{calls, towardsFour, atTrack, beforeFour, MayBeginAt, StartsWith, MetInTrackGreen, MetInPhaseFour, tight, EndsAtForty, StartsAtSeventeen, advanced, JustSpared, JustHit, goesOff, MustStayOn, MustBegin, NotInTransfer, stepped, ownLengths, steppedAt, clearsBy, WithoutSix, phasesOf, asYellowStarts, WithoutTen}
 use Rattle.promises.proofs.Between.{Dark, dark}
-use Rattle.promises.proofs.Sheets.{counts}
+use Rattle.promises.proofs.Computed.{paper, tightly, longer, Goes, worked, before, shown, Four, walked}
 use Rattle.promises.proofs.Demand.{demand-3}
-use Rattle.promises.proofs.Greens.{tick-is, fits-next, sheet-next}
 
--- ---- a run of ticks alone goes by the sheet's lines 3 and 51
+-- ---- a run of ticks alone goes by what the sheet gives
 abbrev TicksOnly : List Event → Type 0
 TicksOnly [] = Prim.Unit {0}
 TicksOnly (tick c call ∷ es) = TicksOnly es
 TicksOnly (load s ∷ es) = ⊥
 
-record Steps (t : Lengths) (u : Unit) (es : List Event) : Type 0 where
-  runs : run u es ≡ stepped t u es
-  sheet : run u es .sheet ≡ u .sheet
-
-steps : (t : Lengths) (es : List Event) → TicksOnly es → (u : Unit) → fits u ≡ true → lengthsOf (u .sheet) ≡ t → Steps t u es
+steps : (s : Sheet) (es : List Event) → TicksOnly es → (x : Now) → fits (holding s x) ≡ true → run (holding s x) es ≡ holding s (stepped (lengthsOf s) s x es)
 unfolding run answerTo stepped
-steps t [] o u f e = record { runs = refl; sheet = refl }
-steps t (tick c call ∷ es) o u f e =
-    let q = tick-is u c call f in
-    let m : ticked (lengthsOf (u .sheet)) u c call .unit ≡ ticked t u c call .unit = ap (λ (x : Lengths). ticked x u c call .unit) e in
-    let s = sheet-next u c call f in
-    let h = steps t es o (ticked (lengthsOf (u .sheet)) u c call .unit) (fits-next u c call f) (ap lengthsOf s ∙ e) in
-    record {
-      runs = ap (λ (v : Unit). run v es) q ∙ h .runs ∙ ap (λ (v : Unit). stepped t v es) m;
-      sheet = ap (λ (v : Unit). run v es .sheet) q ∙ h .sheet ∙ s;
-    }
-steps t (load s ∷ es) o u f e = absurd o
+steps s [] o x f = refl
+steps s (tick c call ∷ es) o x f =
+    ap (λ (v : Unit). run v es) (tick-is (holding s x) c call f)
+    ∙ steps s es o (ticked (lengthsOf s) s x c call .now) (onward-fits (holding s x) c call f)
+steps s (load y ∷ es) o x f = absurd o
 
--- in normal operation, and no call is counted
-ready : (u : Unit) → accepted (u .sheet) ≡ true → normalStage (u .stage) ≡ true → u .count ≡ 0 → Ready u
-unfolding inNormal pick
-ready u a n z =
-    let p = counts (u .sheet) a in
-    record { normal = rw (ne-eqb (u .count) (lengthsOf (u .sheet) .l03) (λ e. omega arith)) n; uncounted = z }
-
-module _ (s : Sheet) (t : Lengths) (a : accepted s ≡ true) (e : lengthsOf s ≡ t) (past : List Event) (o : TicksOnly past) where
+module _ (s : Sheet) (t : Lengths) (w : Goes s t) (past : List Event) (o : TicksOnly past) where
   start-is : startOf s .unit ≡ fresh s
   unfolding started pick
-  start-is = rw a refl
+  start-is = rw (w .fine) refl
 
-  first : Steps t (fresh s) past
-  first = steps t past o (fresh s) (fresh-fits s a) e
-
-  past-is : run (startOf s .unit) past ≡ stepped t (fresh s) past
-  past-is = ap (λ (u : Unit). run u past) start-is ∙ first .runs
-
-  past-sheet : run (startOf s .unit) past .sheet ≡ s
-  past-sheet = ap (λ (u : Unit). run u past .sheet) start-is ∙ first .sheet
-
-  past-ready : normalStage (stepped t (fresh s) past .stage) ≡ true → stepped t (fresh s) past .count ≡ 0 → Ready (run (startOf s .unit) past)
-  past-ready n z =
-      ready (run (startOf s .unit) past) (ap accepted past-sheet ∙ a) (ap (λ (u : Unit). normalStage (u .stage)) past-is ∙ n)
-      (ap (λ (u : Unit). u .count) past-is ∙ z)
+  past-is : run (startOf s .unit) past ≡ holding s (before t s past)
+  past-is =
+      ap (λ (u : Unit). run u past) start-is ∙ steps s past o (now TrackGreen 0) (fresh-fits s (w .fine))
+      ∙ ap (λ (x : Lengths). holding s (before x s past)) (w .lengths)
 
   -- a line of the sheet that the unit holds
-  line-is : (line : Lines → ℕ) (n : ℕ) → line (worksheetOf s .lines) ≡ n → line (lines (run (startOf s .unit) past)) ≡ n
-  line-is line n h = ap (λ (x : Sheet). line (worksheetOf x .lines)) past-sheet ∙ h
+  line-is : (l : Lines → Tenths) (n : ℕ) → l (worksheetOf s .lines) .0 ≡ n → line l (run (startOf s .unit) past) ≡ n
+  line-is l n h = ap (λ (u : Unit). line l u) past-is ∙ h
 
-  met-is : (es : List Event) → TicksOnly es → run (run (startOf s .unit) past) es ≡ stepped t (stepped t (fresh s) past) es
-  met-is es p =
-      ap (λ (u : Unit). run (run u past) es) start-is
-      ∙ steps t es p (run (fresh s) past) (fits-kept (fresh s) past (fresh-fits s a)) (ap lengthsOf (first .sheet) ∙ e) .runs
-      ∙ ap (λ (u : Unit). stepped t u es) (first .runs)
+  may-begin : seenOn false (startOf s .unit) past ≡ false → inNormal (before t s past .stage) ≡ true → MayBeginAt s past
+  may-begin e n = record { off = e; normal = ap (λ (u : Unit). inNormal (u .stage)) past-is ∙ n }
 
-  met-stage : (es : List Event) (n : ℕ) (st : Stage) → TicksOnly (upTo n es) → stepped t (stepped t (fresh s) past) (upTo n es) .stage ≡ st
+  met-stage : (es : List Event) (n : ℕ) (st : Stage) → TicksOnly (upTo n es) → shown t s past (upTo n es) ≡ st
       → atEnd (run (startOf s .unit) past) es n .stage ≡ st
-  met-stage es n st p h = ap (λ (u : Unit). u .stage) (met-is (upTo n es) p) ∙ h
+  met-stage es n st p h =
+      let f : fits (holding s (before t s past)) ≡ true =
+      subst (λ (u : Unit). fits u ≡ true) (ap (λ (u : Unit). run u past) (sym start-is) ∙ past-is) (fits-kept (fresh s) past (fresh-fits s (w .fine))) in
+      ap (λ (u : Unit). run u (upTo n es) .stage) past-is
+      ∙ ap (λ (u : Unit). u .stage) (steps s (upTo n es) p (before t s past) f)
+      ∙ ap (λ (x : Lengths). stepped x s (before t s past) (upTo n es) .stage) (w .lengths) ∙ h
 
 -- ---- the tick with which the green starts is that one
-pub only : (u : Unit) (es : List Event) (n g : ℕ) → Answered u es g → suc n ≤ ticksIn es → n < lines u .l51 .0
+only : (u : Unit) (es : List Event) (n g : ℕ) → Demanded u es g → suc n ≤ ticksIn es → n < line51 u
     → atEnd u es (suc n) .stage ≡ ClearanceGreen 0 → Dark (atEnd u es n .stage) → g ≡ suc n
 only u es n g h m l s d =
     split (ltb (suc n) g)
-    (λ e. absurd (h .green .before (suc n) m (ltb-true (suc n) g e) (0, s)))
+    (λ e. absurd (h .noSooner .first (suc n) m (ltb-true (suc n) g e) (0, s)))
     (λ e.
     split (ltb n g)
     (λ k. omega (arith, ltb-false (suc n) g e, ltb-true n g k))
-    (λ k. absurd (dark (atEnd u es n) d (h .green .shows n (omega arith) (ltb-false n g k) (omega arith)))))
+    (λ k. absurd (dark (atEnd u es n) d (h .answered .green n (omega arith) (ltb-false n g k) (omega arith)))))
 
 -- and demand 3 gives it
 calls-on : (n : ℕ) → CallOn (calls n)
@@ -120,88 +100,145 @@ start-fine : (s : Sheet) → accepted s ≡ true → startOf s .answer ≡ Fine
 unfolding started pick
 start-fine s a = rw a (is-fine (worksheetOf s .answer) a)
 
-starts-with : (s : Sheet) → accepted s ≡ true → (past : List Event) → Ready (run (startOf s .unit) past) → (m n : ℕ)
-    → ((g : ℕ) → Answered (run (startOf s .unit) past) (calls (suc m)) g → g ≡ n) → StartsWith (run (startOf s .unit) past) (calls (suc m)) n
+starts-with : (s : Sheet) → accepted s ≡ true → (past : List Event) → MayBeginAt s past → (m n : ℕ)
+    → ((g : ℕ) → Demanded (run (startOf s .unit) past) (calls (suc m)) g → g ≡ n) → StartsWith (run (startOf s .unit) past) (calls (suc m)) n
 starts-with s a past y m n q =
     let h = demand-3 s (start-fine s a) past y None (calls m) (calls-on m) in
-    (subst (Answered (run (startOf s .unit) past) (calls (suc m))) (q (h .0) (h .1)) (h .1), q)
+    (subst (Demanded (run (startOf s .unit) past) (calls (suc m))) (q (h .0) (h .1)) (h .1), q)
 
--- ---- the paper's sheet
+-- ---- in track green
+green-first : inNormal TrackGreen ≡ true
+unfolding inNormal
+green-first = refl
+
+module _ (s : Sheet) (t : Lengths) (w : Goes s t) where
+  begins-at-track : MayBeginAt s []
+  unfolding seenOn stepped
+  begins-at-track = may-begin s t w [] tt refl green-first
+
+  at-two : (m : ℕ) → 2 ≤ ticksIn (calls (suc m)) → 1 < t .l51 → TicksOnly (upTo 1 (calls (suc m))) → TicksOnly (upTo 2 (calls (suc m)))
+      → shown t s [] (upTo 1 (calls (suc m))) ≡ TrackGreen → shown t s [] (upTo 2 (calls (suc m))) ≡ ClearanceGreen 0
+      → StartsWith (atTrack s) (calls (suc m)) 2
+  at-two m h l o p a b =
+      let one = met-stage s t w [] tt (calls (suc m)) 1 TrackGreen o a in
+      let two = met-stage s t w [] tt (calls (suc m)) 2 (ClearanceGreen 0) p b in
+      let l51 = line-is s t w [] tt (λ x. x .l51) (t .l51) (ap (λ (x : Lengths). x .l51) (w .lengths)) in
+      starts-with s (w .fine) [] begins-at-track m 2 (λ g d. only (atTrack s) (calls (suc m)) 1 g d h (omega arith) two (rw one tt))
+
 pub met-in-track-green : MetInTrackGreen
-unfolding normalStage stepped
 met-in-track-green =
-    let at = met-stage paperSheet paper (worked .paper-accepted) (worked .paper-lengths) [] tt (calls 492) in
-    let l51 = line-is paperSheet paper (worked .paper-accepted) (worked .paper-lengths) [] tt (λ l. l .l51 .0) 490 (ap (λ (t : Lengths). t .l51) (worked .paper-lengths)) in
-    let y = past-ready paperSheet paper (worked .paper-accepted) (worked .paper-lengths) [] tt refl refl in
-    let one = at 1 TrackGreen tt (walked .paper-1) in
-    let two = at 2 (ClearanceGreen 0) tt (walked .paper-2) in (
-      y,
-      one,
-      two,
+    let w = worked .paper-goes in
+    let at = met-stage paperSheet paper w [] tt (calls 492) in (
+      begins-at-track paperSheet paper w,
+      at 1 TrackGreen tt (walked .paper-1),
+      at 2 (ClearanceGreen 0) tt (walked .paper-2),
       at 491 (ClearanceGreen 489) tt (walked .paper-491),
-      at 492 (ClearanceYellow 0) tt (walked .paper-492),
-      starts-with paperSheet (worked .paper-accepted) [] y 491 2 (λ g h. only (atTrack paperSheet) (calls 492) 1 g h (omega arith) (omega arith) two (rw one tt)),
+      at 492 (TrackYellow Train ToDwell 0) tt (walked .paper-492),
+      at-two paperSheet paper w 491 (omega arith) (omega arith) tt tt (walked .paper-1) (walked .paper-2),
     )
+
+-- ---- as phase 4 begins
+module _ (s : Sheet) (t : Lengths) (w : Goes s t) (f : Four s t) (l : 226 < t .l51) where
+  begins-before-four : MayBeginAt s towardsFour
+  unfolding seenOn
+  begins-before-four = may-begin s t w towardsFour tt refl (f .normal)
+
+  met-226 : atEnd (beforeFour s) (calls 227) 226 .stage ≡ Ending 4 ToClearance (Red 19) (Clearance 100)
+  met-226 = met-stage s t w towardsFour tt (calls 227) 226 (Ending 4 ToClearance (Red 19) (Clearance 100)) tt (f .at-226)
+
+  met-227 : atEnd (beforeFour s) (calls 227) 227 .stage ≡ ClearanceGreen 0
+  met-227 = met-stage s t w towardsFour tt (calls 227) 227 (ClearanceGreen 0) tt (f .at-227)
+
+  at-227 : (n : ℕ) → n ≡ 227 → StartsWith (beforeFour s) (calls 227) n
+  at-227 n e =
+      let l51 = line-is s t w towardsFour tt (λ x. x .l51) (t .l51) (ap (λ (x : Lengths). x .l51) (w .lengths)) in
+      starts-with s (w .fine) towardsFour begins-before-four 226 n
+      (λ g d. only (beforeFour s) (calls 227) 226 g d (omega arith) (omega arith) met-227 (rw met-226 tt) ∙ sym e)
 
 pub met-in-phase-four : MetInPhaseFour
 met-in-phase-four =
-    let at = met-stage paperSheet paper (worked .paper-accepted) (worked .paper-lengths) towardsFour tt (calls 227) in
-    let l51 = line-is paperSheet paper (worked .paper-accepted) (worked .paper-lengths) towardsFour tt (λ l. l .l51 .0) 490 (ap (λ (t : Lengths). t .l51) (worked .paper-lengths)) in
-    let y = past-ready paperSheet paper (worked .paper-accepted) (worked .paper-lengths) towardsFour tt (walked .paper-normal) (walked .paper-count) in
-    let before = at 226 (Ending 4 0 (Red 19) (Clearance 100)) tt (walked .paper-226) in
-    let green = at 227 (ClearanceGreen 0) tt (walked .paper-227) in (
-      y,
-      before,
-      green,
-      starts-with paperSheet (worked .paper-accepted) towardsFour y 226 227
-          (λ g h. only (beforeFour paperSheet) (calls 227) 226 g h (omega arith) (omega arith) green (rw before tt)),
+    let w = worked .paper-goes in
+    let f = walked .paper-four in (
+      begins-before-four paperSheet paper w f (omega arith),
+      met-226 paperSheet paper w f (omega arith),
+      met-227 paperSheet paper w f (omega arith),
+      at-227 paperSheet paper w f (omega arith) 227 refl,
     )
 
 -- ---- the tight sheet
 pub ends-at-forty : EndsAtForty
-unfolding normalStage stepped
 ends-at-forty =
-    let at = met-stage tight tightly (worked .tight-accepted) (worked .tight-lengths) [] tt (calls 482) in
-    let line = line-is tight tightly (worked .tight-accepted) (worked .tight-lengths) [] tt in
-    let l03 = line (λ l. l .l03 .0) 2 (ap (λ (t : Lengths). t .l03) (worked .tight-lengths)) in
-    let l51 = line (λ l. l .l51 .0) 480 (ap (λ (t : Lengths). t .l51) (worked .tight-lengths)) in
-    let l40 = line (λ l. l .l40 .0) 482 (worked .tight-l40) in
-    let y = past-ready tight tightly (worked .tight-accepted) (worked .tight-lengths) [] tt refl refl in
-    let one = at 1 TrackGreen tt (walked .tight-1) in
-    let two = at 2 (ClearanceGreen 0) tt (walked .tight-2) in (
-      y,
-      starts-with tight (worked .tight-accepted) [] y 481 _
-          (λ g h. only (atTrack tight) (calls 482) 1 g h (omega arith) (omega arith) two (rw one tt) ∙ sym l03),
+    let w = worked .tight-goes in
+    let line = line-is tight tightly w [] tt in
+    let l03 = line (λ l. l .l03) 2 (ap (λ (t : Lengths). t .l03) (w .lengths)) in
+    let l51 = line (λ l. l .l51) 480 (ap (λ (t : Lengths). t .l51) (w .lengths)) in
+    let l40 = line (λ l. l .l40) 482 (worked .tight-l40) in (
+      begins-at-track tight tightly w,
+      subst (StartsWith (atTrack tight) (calls 482)) (sym l03)
+          (at-two tight tightly w 481 (omega arith) (omega arith) tt tt (walked .tight-1) (walked .tight-2)),
       omega arith,
     )
 
 pub starts-at-seventeen : StartsAtSeventeen
 starts-at-seventeen =
-    let at = met-stage tight tightly (worked .tight-accepted) (worked .tight-lengths) towardsFour tt (calls 227) in
-    let line = line-is tight tightly (worked .tight-accepted) (worked .tight-lengths) towardsFour tt in
-    let l51 = line (λ l. l .l51 .0) 480 (ap (λ (t : Lengths). t .l51) (worked .tight-lengths)) in
-    let l17 = line (λ l. l .l17 .0) 227 (worked .tight-l17) in
-    let l25 = line (λ l. l .l25 .0) 206 (worked .tight-l25) in
-    let l28 = line (λ l. l .l28 .0) 40 (worked .tight-l28) in
-    let l34 = line (λ l. l .l34 .0) 473 (worked .tight-l34) in
-    let y = past-ready tight tightly (worked .tight-accepted) (worked .tight-lengths) towardsFour tt (walked .tight-normal) (walked .tight-count) in
-    let before = at 226 (Ending 4 0 (Red 19) (Clearance 100)) tt (walked .tight-226) in
-    let green = at 227 (ClearanceGreen 0) tt (walked .tight-227) in (
-      y,
-      starts-with tight (worked .tight-accepted) towardsFour y 226 _
-          (λ g h. only (beforeFour tight) (calls 227) 226 g h (omega arith) (omega arith) green (rw before tt) ∙ sym l17),
-      line (λ l. l .l35 .0) 0 (worked .tight-l35),
+    let w = worked .tight-goes in
+    let f = walked .tight-four in
+    let line = line-is tight tightly w towardsFour tt in
+    let l17 = line (λ l. l .l17) 227 (worked .tight-l17) in
+    let l25 = line (λ l. l .l25) 206 (worked .tight-l25) in
+    let l28 = line (λ l. l .l28) 40 (worked .tight-l28) in
+    let l34 = line (λ l. l .l34) 473 (worked .tight-l34) in (
+      begins-before-four tight tightly w f (omega arith),
+      at-227 tight tightly w f (omega arith) _ l17,
+      line (λ l. l .l35) 0 (worked .tight-l35),
       omega arith,
+    )
+
+-- ---- the gate and the trailer
+pub just-spared : JustSpared
+just-spared =
+    let w = worked .spared-goes in
+    let f = walked .spared-four in
+    let line = line-is (advanced 297) longer w towardsFour tt in
+    let l17 = line (λ l. l .l17) 227 (worked .spared-l17) in
+    let l36 = line (λ l. l .l36) 297 (worked .spared-l36) in
+    let l53 = line (λ l. l .l53) 71 (worked .spared-l53) in
+    let l54 = line (λ l. l .l54) 77 (worked .spared-l54) in
+    let l60 = line (λ l. l .l60) 78 (worked .spared-l60) in
+    let l61 = line (λ l. l .l61) 297 (worked .spared-l61) in (
+      begins-before-four (advanced 297) longer w f (omega arith),
+      at-227 (advanced 297) longer w f (omega arith) _ l17,
+      omega arith,
+      omega arith,
+    )
+
+pub just-hit : JustHit
+just-hit =
+    let w = worked .hit-goes in
+    let f = walked .hit-four in
+    let u = beforeFour (advanced 296) in
+    let line = line-is (advanced 296) longer w towardsFour tt in
+    let l17 = line (λ l. l .l17) 227 (worked .hit-l17) in
+    let l36 = line (λ l. l .l36) 296 (worked .hit-l36) in
+    let l53 = line (λ l. l .l53) 71 (worked .hit-l53) in
+    let l54 = line (λ l. l .l54) 77 (worked .hit-l54) in
+    let l60 = line (λ l. l .l60) 78 (worked .hit-l60) in
+    let l61 = line (λ l. l .l61) 297 (worked .hit-l61) in (
+      begins-before-four (advanced 296) longer w f (omega arith),
+      at-227 (advanced 296) longer w f (omega arith) _ l17,
+      omega arith,
+      λ spared. omega (arith, spared 296 374 375 (omega arith) (omega arith) (omega arith)),
     )
 
 -- ---- what the words keep out
 -- a green at tick 1 is before line 3
 too-soon : (past : List Event) → TicksOnly past → shown paper paperSheet past (upTo 1 (calls 1)) ≡ ClearanceGreen 0
-    → (g : ℕ) → Answered (run (startOf paperSheet .unit) past) (calls 1) g → ⊥
+    → (g : ℕ) → Demanded (run (startOf paperSheet .unit) past) (calls 1) g → ⊥
 too-soon past o e g h =
-    let l03 = line-is paperSheet paper (worked .paper-accepted) (worked .paper-lengths) past o (λ l. l .l03 .0) 2 (ap (λ (t : Lengths). t .l03) (worked .paper-lengths)) in
-    let green = met-stage paperSheet paper (worked .paper-accepted) (worked .paper-lengths) past o (calls 1) 1 (ClearanceGreen 0) tt e in
-    h .green .before 1 (omega arith) (omega (arith, h .notBefore)) (0, green)
+    let w = worked .paper-goes in
+    let l03 = line-is paperSheet paper w past o (λ l. l .l03) 2 (ap (λ (t : Lengths). t .l03) (w .lengths)) in
+    let green = met-stage paperSheet paper w past o (calls 1) 1 (ClearanceGreen 0) tt e in
+    h .noSooner .first 1 (omega arith) (omega (arith, h .noSooner .notBefore)) (0, green)
 
 pub must-begin : MustBegin
 must-begin = too-soon (calls 1) tt (walked .counted-1)
@@ -210,12 +247,12 @@ pub not-in-transfer : NotInTransfer
 not-in-transfer = too-soon (towardsFour ++ calls 226) tt (walked .transfer-1)
 
 -- with no call and no command a unit in track green stays as it is
-stays-off : (n k : ℕ) → stepped paper (fresh paperSheet) (upTo n (replicate k (tick None false))) ≡ fresh paperSheet
+stays-off : (n k : ℕ) → before paper paperSheet (upTo n (replicate k (tick None false))) ≡ now TrackGreen 0
 unfolding stepped
 stays-off zero k = refl
 stays-off (suc n) zero = refl
 stays-off (suc n) (suc k) =
-    ap (λ (u : Unit). stepped paper u (upTo n (replicate k (tick None false)))) (walked .off-still) ∙ stays-off n k
+    ap (λ (x : Now). stepped paper paperSheet x (upTo n (replicate k (tick None false)))) (walked .off-still) ∙ stays-off n k
 
 ticks-off : (n k : ℕ) → TicksOnly (upTo n (replicate k (tick None false)))
 ticks-off zero k = tt
@@ -225,23 +262,24 @@ ticks-off (suc n) (suc k) = ticks-off n k
 went-off : (n : ℕ) → shown paper paperSheet [] (upTo (suc (suc n)) goesOff) ≡ TrackGreen
 unfolding stepped
 went-off n =
-    ap (λ (u : Unit). stepped paper u (upTo n (replicate 226 (tick None false))) .stage) (walked .off-again)
-    ∙ ap (λ (u : Unit). u .stage) (stays-off n 226)
+    ap (λ (x : Now). stepped paper paperSheet x (upTo n (replicate 226 (tick None false))) .stage) (walked .off-again)
+    ∙ ap (λ (x : Now). x .stage) (stays-off n 226)
 
-no-green : (g : ℕ) → 2 ≤ g → g ≤ 227 → Answered (atTrack paperSheet) goesOff g → ⊥
+no-green : (g : ℕ) → 2 ≤ g → g ≤ 227 → Demanded (atTrack paperSheet) goesOff g → ⊥
 no-green zero a b h = omega arith
 no-green (suc zero) a b h = omega arith
 no-green (suc (suc n)) a b h =
-    let l51 = line-is paperSheet paper (worked .paper-accepted) (worked .paper-lengths) [] tt (λ l. l .l51 .0) 490 (ap (λ (t : Lengths). t .l51) (worked .paper-lengths)) in
-    let green = met-stage paperSheet paper (worked .paper-accepted) (worked .paper-lengths) [] tt goesOff (suc (suc n)) TrackGreen (ticks-off n 226) (went-off n) in
-    dark (atEnd (atTrack paperSheet) goesOff (suc (suc n))) (rw green tt) (h .green .shows (suc (suc n)) (omega arith) (omega arith) (omega arith))
+    let w = worked .paper-goes in
+    let l51 = line-is paperSheet paper w [] tt (λ l. l .l51) 490 (ap (λ (t : Lengths). t .l51) (w .lengths)) in
+    let green = met-stage paperSheet paper w [] tt goesOff (suc (suc n)) TrackGreen (ticks-off n 226) (went-off n) in
+    dark (atEnd (atTrack paperSheet) goesOff (suc (suc n))) (rw green tt) (h .answered .green (suc (suc n)) (omega arith) (omega arith) (omega arith))
 
 pub must-stay-on : MustStayOn
 must-stay-on g h =
-    let line = line-is paperSheet paper (worked .paper-accepted) (worked .paper-lengths) [] tt in
-    let l03 = line (λ l. l .l03 .0) 2 (ap (λ (t : Lengths). t .l03) (worked .paper-lengths)) in
-    let l17 = line (λ l. l .l17 .0) 227 (worked .paper-l17) in
-    no-green g (omega (arith, h .notBefore)) (omega (arith, h .byLine17)) h
+    let w = worked .paper-goes in
+    let l03 = line-is paperSheet paper w [] tt (λ l. l .l03) 2 (ap (λ (t : Lengths). t .l03) (w .lengths)) in
+    let l17 = line-is paperSheet paper w [] tt (λ l. l .l17) 227 (worked .paper-l17) in
+    no-green g (omega (arith, h .noSooner .notBefore)) (omega (arith, h .answered .byLine17)) h
 
 -- ---- what refusals 6 and 10 keep out
 pub without-six : WithoutSix

@@ -3,7 +3,6 @@ pub mod Coming
 pub mod Computed
 pub mod Counting
 pub mod Demand
-pub mod Flow
 pub mod Greens
 pub mod Instances
 pub mod Loads

@@ -13,13 +13,14 @@ use Rattle.sheet.specs.declared.Phase.{Phase}
 use Rattle.sheet.specs.declared.Refusal.{Refusal}
 use Rattle.sheet.specs.declared.Sheet.{Sheet}
 use Rattle.sheet.specs.Refusals.{numberOf, answerNumber, orElse, unless}
-use Rattle.rows.specs.Flat.{flatOf, phaseAt}
-use Rattle.rows.specs.Table.{kindOf, present, phaseKind, pointKind, firstPhase}
+use Rattle.numbers.specs.Flat.{flatOf, phaseAt}
+use Rattle.rows.specs.Table.{kindOf, present, phaseKind, pointKind, firstPhase, rowCount}
 use Rattle.accept.specs.Lines.{phaseFault, beforePhase, ruleFault, rowFault, hereFault, lineAfter, faultFrom}
 use Rattle.accept.specs.Whole.{wholeFault, acceptOf}
 use Rattle.lines.specs.Worksheet.{worksheetOf}
-use Rattle.unit.specs.Promises.{OwnRefusals}
-use Rattle.unit.proofs.Kept.{never-20}
+use Rattle.unit.specs.Unit.{startOf}
+use Rattle.unit.specs.Runs.{run}
+use Rattle.unit.proofs.Kept.{fits-kept, start-fits, not-twenty}
 use Rattle.promises.specs.Promises.{Never20}
 
 -- not refused 20
@@ -71,9 +72,9 @@ own-whole s =
     own-or _ _ (own-unless _ _ _ (λ e. omega arith))
     (own-or _ _ (own-unless _ _ _ (λ e. omega arith)) (own-or _ _ (own-unless _ _ _ (λ e. omega arith)) (own-unless _ _ _ (λ e. omega arith))))
 
-pub own-refusals : OwnRefusals
+own-refusals : (s : Sheet) → Own (worksheetOf s .answer)
 unfolding worksheetOf acceptOf
-own-refusals s = own-or _ _ (own-from (flatOf s) 45 0 1) (own-whole s)
+own-refusals s = own-or _ _ (own-from (flatOf s) rowCount 0 1) (own-whole s)
 
-pub never-answered-20 : Never20
-never-answered-20 = never-20 own-refusals
+pub never-20 : Never20
+never-20 s a es e = not-twenty own-refusals (run (startOf s .unit) es) e (fits-kept (startOf s .unit) es (start-fits s a))

@@ -5,7 +5,8 @@ use mathlib.Core.List.{List, [], _∷_}
 use mathlib.Core.Path.{_≡_, refl}
 use lib.Dec.{eqb}
 use Rattle.units.specs.Numbers.{pick}
-use Rattle.units.proofs.All.{All, all-from}
+use Rattle.units.specs.Lists.{All}
+use Rattle.units.proofs.All.{all-from}
 use Rattle.units.proofs.Steps.{cases, never}
 use Rattle.sheet.specs.declared.Answer.the-variants.{Fine}
 use Rattle.sheet.specs.declared.Phase.{Phase}
@@ -21,7 +22,7 @@ use Rattle.accept.specs.Whole.{acceptOf}
 use Rattle.accept.proofs.Sound.{sound}
 use Rattle.lines.specs.Lines.{l03, l16, l17, linesOf}
 use Rattle.lines.specs.Worksheet.{worksheetOf}
-use Rattle.lines.proofs.Promised.{warning-enough, gates-before-end, lasting}
+use Rattle.lines.proofs.Promised.{warning-enough, gates-before-end, advance-enough, lasting}
 use Rattle.phase.specs.Promises.{Fair}
 use Rattle.phase.proofs.Left.{over-in-time}
 use Rattle.stage.specs.declared.Found.{Found}
@@ -86,6 +87,13 @@ module _ (s : Sheet) (a : accepted s ≡ true) where
   pub gates-down : worksheetOf s .lines .l40 .0 ≤ worksheetOf s .lines .l03 .0 + worksheetOf s .lines .l51 .0
   unfolding linesOf
   gates-down = rw lines-are (gates-before-end s)
+
+  -- line 61 is what line 55, the transfer and lines 53 and 54, has over line 60
+  pub advance : worksheetOf s .lines .l61 .0 ≤ worksheetOf s .lines .l36 .0
+      → worksheetOf s .lines .l17 .0 + worksheetOf s .lines .l53 .0 + worksheetOf s .lines .l54 .0
+      ≤ worksheetOf s .lines .l36 .0 + worksheetOf s .lines .l60 .0
+  unfolding linesOf
+  advance e = rw lines-are (advance-enough s (rw lines-are at e))
 
 pub sixteen-enough : SixteenEnough
 sixteen-enough s a = (

@@ -1,4 +1,4 @@
--- A stage that fits still does one tick later, and after an end that is allowed: stage by stage. Assumes nothing.
+-- A stage that fits still does one tick later, and after a command that is allowed: stage by stage. Assumes nothing.
 use Prim.Native.Nat.{ℕ}
 use mathlib.Core.Bool.{Bool, true, false}
 use mathlib.Core.Path.{_≡_, refl, sym}
@@ -12,12 +12,17 @@ use Rattle.phase.specs.declared.Walker.{Walker}
 use Rattle.phase.specs.declared.Walker.the-variants.{Walk}
 use Rattle.phase.specs.Times.{oneMore, addLight, addWalker, lightFits, walkerFits}
 use Rattle.phase.proofs.Fit.{one-more-fits, none-fits, add-light-fits, add-walker-fits}
-use Rattle.stage.specs.declared.Stage.the-variants.{TrackGreen, TrackYellow, TrackRed, Open, Ending, ClearanceGreen, ClearanceYellow, ClearanceRed, Dwell}
-use Rattle.stage.specs.Listed.{listed, phaseOf, nextFits}
+use Rattle.stage.specs.declared.Command.the-variants.{None, End}
+use Rattle.stage.specs.declared.Lengths.{Lengths}
+use Rattle.stage.specs.declared.Stage.{Stage}
+use Rattle.stage.specs.declared.Stage.the-variants.{TrackGreen, TrackYellow, TrackRed, Open, Ending, ClearanceGreen, Dwell}
+use Rattle.stage.specs.declared.Then.{Then}
+use Rattle.stage.specs.declared.Then.the-variants.{ToTrack, ToPhase}
+use Rattle.stage.specs.Listed.{listed, phaseOf}
 use Rattle.stage.specs.Times.{addOne}
-use Rattle.stage.specs.Fitness.{phaseFits, stageFits}
-use Rattle.stage.specs.Commands.{allowedIn, allowedAt, ended}
-use Rattle.stage.specs.Promises.{TickFits, EndFits}
+use Rattle.stage.specs.Fitness.{thenFits, phaseFits, stageFits}
+use Rattle.stage.specs.Commands.{allowedIn, allowedAt, allowed, next, ended, obeyed}
+use Rattle.stage.specs.Promises.{TickFits, ObeyedFits}
 
 pub both-true : (a b : Bool) → a ≡ true → b ≡ true → both a b ≡ true
 both-true a b p q = sym (pick-yes a b false true p (sym q))
@@ -49,47 +54,37 @@ module _ (s : Sheet) (n : ℕ) where
         walker = add-walker-fits (phaseOf s n) w (f .walker);
       })
 
--- a time that runs beside what next is
-next-too : (b : Bool) (k n : ℕ) → both b (leb k n) ≡ true → both b (leb (oneMore k n) n) ≡ true
-next-too b k n e = both-true b _ (both-left b _ e) (one-more-fits k n (both-right b _ e))
+-- a time that runs beside what follows
+then-too : (b : Bool) (k n : ℕ) → both b (leb k n) ≡ true → both b (leb (oneMore k n) n) ≡ true
+then-too b k n e = both-true b _ (both-left b _ e) (one-more-fits k n (both-right b _ e))
 
 pub tick-fits : TickFits
 unfolding stageFits addOne addLight addWalker
 tick-fits t s TrackGreen e = refl
-tick-fits t s (TrackYellow n k) e = next-too (nextFits s n) k (s .«track_yellow») e
-tick-fits t s (TrackRed n k) e = next-too (nextFits s n) k (s .«track_red») e
+tick-fits t s (TrackYellow p z k) e = then-too (thenFits s z) k (t .«track_yellow») e
+tick-fits t s (TrackRed p z k) e = then-too (thenFits s z) k (t .«track_red») e
 tick-fits t s (Open n g w) e = add-phase-fits s n (Green g) (Walk w) e
-tick-fits t s (Ending n m l w) e = both-true (nextFits s m) _ (both-left (nextFits s m) _ e) (add-phase-fits s n l w (both-right (nextFits s m) _ e))
+tick-fits t s (Ending n z l w) e = both-true (thenFits s z) _ (both-left (thenFits s z) _ e) (add-phase-fits s n l w (both-right (thenFits s z) _ e))
 tick-fits t s (ClearanceGreen k) e = one-more-fits k (t .l51) e
-tick-fits t s (ClearanceYellow k) e = one-more-fits k (s .«track_yellow») e
-tick-fits t s (ClearanceRed k) e = one-more-fits k (s .«track_red») e
 tick-fits t s Dwell e = refl
 
--- "listed" is one way to be "listed or 0"
-pub listed-next : (s : Sheet) (n : ℕ) → listed s n ≡ true → nextFits s n ≡ true
-unfolding nextFits
-listed-next s n e = cases (λ (b : Bool). b ≡ true) (eqb n 0) true (listed s n) (λ z. refl) (λ z. e)
+-- what is allowed next is the track, or a listed phase
+allowed-next : (s : Sheet) (m n : ℕ) → allowedIn s m n ≡ true → thenFits s (next n) ≡ true
+unfolding allowedIn next thenFits pick
+allowed-next s m n e =
+    split (eqb n m) (λ h. never (rw h at e)) (λ h. split (eqb n 0) (λ z. rw z refl) (λ z. rw z (rw (h, z) at e)))
 
-pub next-listed : (s : Sheet) (n : ℕ) → nextFits s n ≡ true → eqb n 0 ≡ false → listed s n ≡ true
-unfolding nextFits pick
-next-listed s n f e = rw e at f
+ended-fits : (t : Lengths) (s : Sheet) (st : Stage) (n : ℕ) → allowedAt s st n ≡ true → stageFits t s st ≡ true → stageFits t s (ended n st) ≡ true
+unfolding stageFits thenFits allowedAt ended
+ended-fits t s TrackGreen n a e = both-true (thenFits s (ToPhase n)) _ a (none-fits (t .«track_yellow»))
+ended-fits t s (TrackYellow p z k) n a e = e
+ended-fits t s (TrackRed p z k) n a e = e
+ended-fits t s (Open m g w) n a e = both-true (thenFits s (next n)) _ (allowed-next s m n a) e
+ended-fits t s (Ending m z l w) n a e = e
+ended-fits t s (ClearanceGreen k) n a e = e
+ended-fits t s Dwell n a e = e
 
-pub track-next : (s : Sheet) → nextFits s 0 ≡ true
-unfolding nextFits pick
-track-next s = refl
-
-allowed-next : (s : Sheet) (m n : ℕ) → allowedIn s m n ≡ true → nextFits s n ≡ true
-unfolding allowedIn pick
-allowed-next s m n e = split (eqb n m) (λ h. never (rw h at e)) (λ h. rw h at e)
-
-pub end-fits : EndFits
-unfolding stageFits allowedAt ended
-end-fits t s TrackGreen n a e = both-true (nextFits s n) _ (listed-next s n a) (none-fits (s .«track_yellow»))
-end-fits t s (TrackYellow m k) n a e = e
-end-fits t s (TrackRed m k) n a e = e
-end-fits t s (Open m g w) n a e = both-true (nextFits s n) _ (allowed-next s m n a) e
-end-fits t s (Ending m i l w) n a e = e
-end-fits t s (ClearanceGreen k) n a e = e
-end-fits t s (ClearanceYellow k) n a e = e
-end-fits t s (ClearanceRed k) n a e = e
-end-fits t s Dwell n a e = e
+pub obeyed-fits : ObeyedFits
+unfolding allowed obeyed
+obeyed-fits t s st None a e = e
+obeyed-fits t s st (End n) a e = ended-fits t s st n a e

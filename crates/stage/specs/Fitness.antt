@@ -11,19 +11,26 @@ use Rattle.phase.specs.declared.Walker.the-variants.{Walk}
 use Rattle.phase.specs.Times.{lightFits, walkerFits}
 use Rattle.stage.specs.declared.Lengths.{Lengths}
 use Rattle.stage.specs.declared.Stage.{Stage}
-use Rattle.stage.specs.declared.Stage.the-variants.{TrackGreen, TrackYellow, TrackRed, Open, Ending, ClearanceGreen, ClearanceYellow, ClearanceRed, Dwell}
-use Rattle.stage.specs.Listed.{listed, phaseOf, nextFits}
+use Rattle.stage.specs.declared.Stage.the-variants.{TrackGreen, TrackYellow, TrackRed, Open, Ending, ClearanceGreen, Dwell}
+use Rattle.stage.specs.declared.Then.{Then}
+use Rattle.stage.specs.declared.Then.the-variants.{ToTrack, ToPhase, ToClearance, ToDwell}
+use Rattle.stage.specs.Listed.{listed, phaseOf}
+
+-- a next of 0 is the track
+unfoldable pub thenFits : Sheet → Then → Bool
+thenFits s ToTrack = true
+thenFits s (ToPhase n) = listed s n
+thenFits s ToClearance = true
+thenFits s ToDwell = true
 
 unfoldable pub phaseFits : Sheet → ℕ → Light → Walker → Bool
 phaseFits s n l w = both (listed s n) (both (lightFits (phaseOf s n) l) (walkerFits (phaseOf s n) w))
 
 unfoldable pub stageFits : Lengths → Sheet → Stage → Bool
 stageFits t s TrackGreen = true
-stageFits t s (TrackYellow n k) = both (nextFits s n) (leb k (s .«track_yellow»))
-stageFits t s (TrackRed n k) = both (nextFits s n) (leb k (s .«track_red»))
+stageFits t s (TrackYellow p z k) = both (thenFits s z) (leb k (t .«track_yellow»))
+stageFits t s (TrackRed p z k) = both (thenFits s z) (leb k (t .«track_red»))
 stageFits t s (Open n g w) = phaseFits s n (Green g) (Walk w)
-stageFits t s (Ending n m l w) = both (nextFits s m) (phaseFits s n l w)
+stageFits t s (Ending n z l w) = both (thenFits s z) (phaseFits s n l w)
 stageFits t s (ClearanceGreen k) = leb k (t .l51)
-stageFits t s (ClearanceYellow k) = leb k (s .«track_yellow»)
-stageFits t s (ClearanceRed k) = leb k (s .«track_red»)
 stageFits t s Dwell = true

@@ -33,7 +33,3 @@ listed s n = isAt (findIn (listing s) n)
 -- it; the phase of zeros where none is, which no stage that fits shows
 abbrev pub phaseOf : Sheet → ℕ → Phase
 phaseOf s n = orZero (findIn (listing s) n)
-
--- "listed or 0"
-unfoldable pub nextFits : Sheet → ℕ → Bool
-nextFits s n = pick (eqb n 0) true (listed s n)

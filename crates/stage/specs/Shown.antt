@@ -1,38 +1,38 @@
 -- Which stage is shown.
 use mathlib.Core.Bool.{Bool, true, false}
 use Rattle.stage.specs.declared.Stage.{Stage}
-use Rattle.stage.specs.declared.Stage.the-variants.{TrackGreen, TrackYellow, TrackRed, Open, Ending, ClearanceGreen, ClearanceYellow, ClearanceRed, Dwell}
+use Rattle.stage.specs.declared.Stage.the-variants.{TrackGreen, TrackYellow, TrackRed, Open, Ending, ClearanceGreen, Dwell}
+use Rattle.stage.specs.declared.Place.{Place}
+use Rattle.stage.specs.declared.Place.the-variants.{Normal, Train}
+use Rattle.stage.specs.declared.Then.{Then}
+use Rattle.stage.specs.declared.Then.the-variants.{ToTrack, ToPhase, ToClearance, ToDwell}
 
--- "In normal operation the unit shows track green, track yellow, track red, or a phase"
-unfoldable pub normalStage : Stage → Bool
-normalStage TrackGreen = true
-normalStage (TrackYellow n k) = true
-normalStage (TrackRed n k) = true
-normalStage (Open n g w) = true
-normalStage (Ending n m l w) = true
-normalStage (ClearanceGreen k) = false
-normalStage (ClearanceYellow k) = false
-normalStage (ClearanceRed k) = false
-normalStage Dwell = false
+-- what follows is normal operation still: not the track clearance green that is owed once the transfer has begun, nor dwell
+unfoldable pub staysNormal : Then → Bool
+staysNormal ToTrack = true
+staysNormal (ToPhase n) = true
+staysNormal ToClearance = false
+staysNormal ToDwell = false
+
+unfoldable pub normalBefore : Place → Then → Bool
+normalBefore Normal z = staysNormal z
+normalBefore Train z = false
+
+-- "In normal operation the unit shows track green, track yellow, track red, or a phase": until the transfer begins
+unfoldable pub inNormal : Stage → Bool
+inNormal TrackGreen = true
+inNormal (TrackYellow p z k) = normalBefore p z
+inNormal (TrackRed p z k) = normalBefore p z
+inNormal (Open n g w) = true
+inNormal (Ending n z l w) = normalBefore Normal z
+inNormal (ClearanceGreen k) = false
+inNormal Dwell = false
 
 unfoldable pub isTrackGreen : Stage → Bool
 isTrackGreen TrackGreen = true
-isTrackGreen (TrackYellow n k) = false
-isTrackGreen (TrackRed n k) = false
+isTrackGreen (TrackYellow p z k) = false
+isTrackGreen (TrackRed p z k) = false
 isTrackGreen (Open n g w) = false
-isTrackGreen (Ending n m l w) = false
+isTrackGreen (Ending n z l w) = false
 isTrackGreen (ClearanceGreen k) = false
-isTrackGreen (ClearanceYellow k) = false
-isTrackGreen (ClearanceRed k) = false
 isTrackGreen Dwell = false
-
-unfoldable pub isDwell : Stage → Bool
-isDwell TrackGreen = false
-isDwell (TrackYellow n k) = false
-isDwell (TrackRed n k) = false
-isDwell (Open n g w) = false
-isDwell (Ending n m l w) = false
-isDwell (ClearanceGreen k) = false
-isDwell (ClearanceYellow k) = false
-isDwell (ClearanceRed k) = false
-isDwell Dwell = true

@@ -1,25 +1,43 @@
-// The stage that a unit shows: one more tick of its times, whether it fits the sheet, and what an end asked makes of it.
+// The stage that a unit shows: one more tick of its times, whether it fits the sheet, and what a command makes of it.
 ghost use mathlib.Core.Path.{_≡_};
-ghost use Rattle.stage.specs.Listed.{listing, findIn, isAt, orZero, listed, phaseOf, nextFits};
-ghost use Rattle.stage.specs.Shown.{normalStage, isTrackGreen, isDwell};
+ghost use Rattle.stage.specs.Listed.{listing, findIn, isAt, orZero, listed, phaseOf};
+ghost use Rattle.stage.specs.Shown.{staysNormal, normalBefore, inNormal, isTrackGreen};
 ghost use Rattle.stage.specs.Times.{addOpen, addEnding, addOne};
-ghost use Rattle.stage.specs.Fitness.{phaseFits, stageFits};
-ghost use Rattle.stage.specs.Commands.{allowedIn, allowedAt, ended};
+ghost use Rattle.stage.specs.Fitness.{thenFits, phaseFits, stageFits};
 use phase::Light;
 use phase::Walker;
 use sheet::Phase;
 use sheet::Sheet;
 
-// Track green, yellow and red, a phase, and a phase that was asked to end: normal operation, until the transfer begins. Then track
-// clearance green, yellow and red, and dwell. Each has its interval's ticks spent; a next of 0 is the track.
+mod commands;
+
+// Normal operation; or a train's, from track clearance green to the end of dwell.
+pub enum Place {
+    Normal,
+    Train,
+}
+
+// What follows where a stage is over: track green in normal operation, which is next 0; a phase; the track clearance green that is owed once the
+// transfer has begun; or, as the call is then, dwell if it is on and track green if it is off.
+pub enum Then {
+    ToTrack,
+    ToPhase(u32),
+    ToClearance,
+    ToDwell,
+}
+
+// Each stage with its interval's ticks spent. One that is over of itself has what follows with it: the track's yellow and red, in normal
+// operation and after track clearance green, and a phase that was asked to end.
 pub enum Stage {
     TrackGreen,
     TrackYellow {
-        next: u32,
+        place: Place,
+        then: Then,
         spent: u64,
     },
     TrackRed {
-        next: u32,
+        place: Place,
+        then: Then,
         spent: u64,
     },
     Open {
@@ -29,26 +47,28 @@ pub enum Stage {
     },
     Ending {
         phase: u32,
-        next: u32,
+        then: Then,
         light: Light,
         walker: Walker,
     },
     ClearanceGreen {
         spent: u64,
     },
-    ClearanceYellow {
-        spent: u64,
-    },
-    ClearanceRed {
-        spent: u64,
-    },
     Dwell,
 }
 
-// The lines of the worksheet that the sequence goes by, in ticks: how long the call must be seen on, and how long track clearance green lasts.
+// None, or end with the number that is next; 0 is the track.
+pub enum Command {
+    None,
+    End(u32),
+}
+
+// What the sequence goes by, in ticks: how long the call must be seen on, how long track clearance green lasts, and the track's yellow and red.
 pub struct Lengths {
     pub l03: u64,
     pub l51: u64,
+    pub track_yellow: u64,
+    pub track_red: u64,
 }
 
 pub enum Found {
@@ -90,7 +110,7 @@ fn or_zero(found: Found) -> Phase
     }
 }
 
-pub fn listed(sheet: Sheet, number: u32) -> bool
+fn listed(sheet: Sheet, number: u32) -> bool
     ensures { λ r. ⌜ r ≡ listed sheet number ⌝ }
 {
     is_at(find(sheet, number))
@@ -101,12 +121,6 @@ pub fn phase_of(sheet: Sheet, number: u32) -> Phase
     ensures { λ r. ⌜ r ≡ phaseOf sheet number ⌝ }
 {
     or_zero(find(sheet, number))
-}
-
-fn next_fits(sheet: Sheet, next: u32) -> bool
-    ensures { λ r. ⌜ r ≡ nextFits sheet next ⌝ }
-{
-    if next == 0 { true } else { listed(sheet, next) }
 }
 
 fn add_open(sheet: Sheet, phase: u32, green: u64, walk: u64) -> Stage
@@ -120,13 +134,13 @@ fn add_open(sheet: Sheet, phase: u32, green: u64, walk: u64) -> Stage
     }
 }
 
-fn add_ending(sheet: Sheet, phase: u32, next: u32, light: Light, walker: Walker) -> Stage
-    ensures { λ r. ⌜ r ≡ addEnding sheet phase next light walker ⌝ }
+fn add_ending(sheet: Sheet, phase: u32, then: Then, light: Light, walker: Walker) -> Stage
+    ensures { λ r. ⌜ r ≡ addEnding sheet phase then light walker ⌝ }
 {
     let p = phase_of(sheet, phase);
     Stage::Ending {
         phase: phase,
-        next: next,
+        then: then,
         light: phase::add_light(p, light),
         walker: phase::add_walker(p, walker),
     }
@@ -137,32 +151,39 @@ pub fn add_one(t: Lengths, sheet: Sheet, stage: Stage) -> Stage
     ensures { λ r. ⌜ r ≡ addOne t sheet stage ⌝ }
 {
     match stage {
-        Stage::TrackGreen => Stage::TrackGreen,
-        Stage::TrackYellow { next, spent } => Stage::TrackYellow {
-            next: next,
-            spent: phase::one_more(spent, sheet.track_yellow as u64),
+        Stage::TrackGreen => stage,
+        Stage::TrackYellow { place, then, spent } => Stage::TrackYellow {
+            place: place,
+            then: then,
+            spent: phase::one_more(spent, t.track_yellow),
         },
-        Stage::TrackRed { next, spent } => Stage::TrackRed {
-            next: next,
-            spent: phase::one_more(spent, sheet.track_red as u64),
+        Stage::TrackRed { place, then, spent } => Stage::TrackRed {
+            place: place,
+            then: then,
+            spent: phase::one_more(spent, t.track_red),
         },
         Stage::Open { phase, green, walk } => add_open(sheet, phase, green, walk),
         Stage::Ending {
             phase,
-            next,
+            then,
             light,
             walker,
-        } => add_ending(sheet, phase, next, light, walker),
+        } => add_ending(sheet, phase, then, light, walker),
         Stage::ClearanceGreen { spent } => Stage::ClearanceGreen {
             spent: phase::one_more(spent, t.l51),
         },
-        Stage::ClearanceYellow { spent } => Stage::ClearanceYellow {
-            spent: phase::one_more(spent, sheet.track_yellow as u64),
-        },
-        Stage::ClearanceRed { spent } => Stage::ClearanceRed {
-            spent: phase::one_more(spent, sheet.track_red as u64),
-        },
-        Stage::Dwell => Stage::Dwell,
+        Stage::Dwell => stage,
+    }
+}
+
+fn then_fits(sheet: Sheet, then: Then) -> bool
+    ensures { λ r. ⌜ r ≡ thenFits sheet then ⌝ }
+{
+    match then {
+        Then::ToTrack => true,
+        Then::ToPhase(n) => listed(sheet, n),
+        Then::ToClearance => true,
+        Then::ToDwell => true,
     }
 }
 
@@ -179,19 +200,27 @@ fn phase_fits(sheet: Sheet, phase: u32, light: Light, walker: Walker) -> bool
     false
 }
 
-// No phase that is not listed, no next that is neither listed nor 0, no time above its length.
+// No phase that is not listed, no next that is neither listed nor the track, no time above its length.
 pub fn stage_fits(t: Lengths, sheet: Sheet, stage: Stage) -> bool
     ensures { λ r. ⌜ r ≡ stageFits t sheet stage ⌝ }
 {
     match stage {
         Stage::TrackGreen => true,
-        Stage::TrackYellow { next, spent } => if next_fits(sheet, next) {
-            spent <= sheet.track_yellow as u64
+        Stage::TrackYellow {
+            place: _,
+            then,
+            spent,
+        } => if then_fits(sheet, then) {
+            spent <= t.track_yellow
         } else {
-            false
+            false // a next that is not listed
         },
-        Stage::TrackRed { next, spent } => if next_fits(sheet, next) {
-            spent <= sheet.track_red as u64
+        Stage::TrackRed {
+            place: _,
+            then,
+            spent,
+        } => if then_fits(sheet, then) {
+            spent <= t.track_red
         } else {
             false
         },
@@ -203,95 +232,55 @@ pub fn stage_fits(t: Lengths, sheet: Sheet, stage: Stage) -> bool
         ),
         Stage::Ending {
             phase,
-            next,
+            then,
             light,
             walker,
-        } => if next_fits(sheet, next) {
+        } => if then_fits(sheet, then) {
             phase_fits(sheet, phase, light, walker)
         } else {
             false
         },
         Stage::ClearanceGreen { spent } => spent <= t.l51,
-        Stage::ClearanceYellow { spent } => spent <= sheet.track_yellow as u64,
-        Stage::ClearanceRed { spent } => spent <= sheet.track_red as u64,
         Stage::Dwell => true,
     }
 }
 
-fn allowed_in(sheet: Sheet, phase: u32, next: u32) -> bool
-    ensures { λ r. ⌜ r ≡ allowedIn sheet phase next ⌝ }
+fn stays_normal(then: Then) -> bool
+    ensures { λ r. ⌜ r ≡ staysNormal then ⌝ }
 {
-    if next == phase {
-        false
-    } else {
-        next_fits(sheet, next)
+    match then {
+        Then::ToTrack => true,
+        Then::ToPhase(_) => true,
+        Then::ToClearance => false,
+        Then::ToDwell => false,
     }
 }
 
-// An end with that next is allowed now.
-pub fn allowed_at(sheet: Sheet, stage: Stage, next: u32) -> bool
-    ensures { λ r. ⌜ r ≡ allowedAt sheet stage next ⌝ }
+fn normal_before(place: Place, then: Then) -> bool
+    ensures { λ r. ⌜ r ≡ normalBefore place then ⌝ }
 {
-    match stage {
-        Stage::TrackGreen => listed(sheet, next),
-        Stage::TrackYellow { next: _, spent: _ } => false,
-        Stage::TrackRed { next: _, spent: _ } => false,
-        Stage::Open {
-            phase,
-            green: _,
-            walk: _,
-        } => allowed_in(sheet, phase, next),
-        Stage::Ending {
-            phase: _,
-            next: _,
-            light: _,
-            walker: _,
-        } => false,
-        Stage::ClearanceGreen { spent: _ } => false,
-        Stage::ClearanceYellow { spent: _ } => false,
-        Stage::ClearanceRed { spent: _ } => false,
-        Stage::Dwell => false,
+    match place {
+        Place::Normal => stays_normal(then),
+        Place::Train => false,
     }
 }
 
-// What an end that is allowed makes of the stage.
-pub fn ended(next: u32, stage: Stage) -> Stage
-    ensures { λ r. ⌜ r ≡ ended next stage ⌝ }
-{
-    match stage {
-        Stage::TrackGreen => Stage::TrackYellow {
-            next: next,
-            spent: 0,
-        },
-        Stage::TrackYellow { next: _, spent: _ } => stage,
-        Stage::TrackRed { next: _, spent: _ } => stage,
-        Stage::Open { phase, green, walk } => Stage::Ending {
-            phase: phase,
-            next: next,
-            light: Light::Green(green),
-            walker: Walker::Walk(walk),
-        },
-        Stage::Ending {
-            phase: _,
-            next: _,
-            light: _,
-            walker: _,
-        } => stage,
-        Stage::ClearanceGreen { spent: _ } => stage,
-        Stage::ClearanceYellow { spent: _ } => stage,
-        Stage::ClearanceRed { spent: _ } => stage,
-        Stage::Dwell => stage,
-    }
-}
-
-// A stage of normal operation.
-pub fn normal_stage(stage: Stage) -> bool
-    ensures { λ r. ⌜ r ≡ normalStage stage ⌝ }
+// Normal operation, until the transfer begins.
+pub fn in_normal(stage: Stage) -> bool
+    ensures { λ r. ⌜ r ≡ inNormal stage ⌝ }
 {
     match stage {
         Stage::TrackGreen => true,
-        Stage::TrackYellow { next: _, spent: _ } => true,
-        Stage::TrackRed { next: _, spent: _ } => true,
+        Stage::TrackYellow {
+            place,
+            then,
+            spent: _,
+        } => normal_before(place, then),
+        Stage::TrackRed {
+            place,
+            then,
+            spent: _,
+        } => normal_before(place, then),
         Stage::Open {
             phase: _,
             green: _,
@@ -299,39 +288,12 @@ pub fn normal_stage(stage: Stage) -> bool
         } => true,
         Stage::Ending {
             phase: _,
-            next: _,
+            then,
             light: _,
             walker: _,
-        } => true,
+        } => normal_before(Place::Normal, then),
         Stage::ClearanceGreen { spent: _ } => false, // after the transfer
-        Stage::ClearanceYellow { spent: _ } => false,
-        Stage::ClearanceRed { spent: _ } => false,
         Stage::Dwell => false,
-    }
-}
-
-pub fn is_dwell(stage: Stage) -> bool
-    ensures { λ r. ⌜ r ≡ isDwell stage ⌝ }
-{
-    match stage {
-        Stage::TrackGreen => false,
-        Stage::TrackYellow { next: _, spent: _ } => false,
-        Stage::TrackRed { next: _, spent: _ } => false,
-        Stage::Open {
-            phase: _,
-            green: _,
-            walk: _,
-        } => false,
-        Stage::Ending {
-            phase: _,
-            next: _,
-            light: _,
-            walker: _,
-        } => false,
-        Stage::ClearanceGreen { spent: _ } => false,
-        Stage::ClearanceYellow { spent: _ } => false,
-        Stage::ClearanceRed { spent: _ } => false,
-        Stage::Dwell => true,
     }
 }
 
@@ -340,8 +302,16 @@ pub fn is_track_green(stage: Stage) -> bool
 {
     match stage {
         Stage::TrackGreen => true,
-        Stage::TrackYellow { next: _, spent: _ } => false,
-        Stage::TrackRed { next: _, spent: _ } => false,
+        Stage::TrackYellow {
+            place: _,
+            then: _,
+            spent: _,
+        } => false,
+        Stage::TrackRed {
+            place: _,
+            then: _,
+            spent: _,
+        } => false,
         Stage::Open {
             phase: _,
             green: _,
@@ -349,13 +319,11 @@ pub fn is_track_green(stage: Stage) -> bool
         } => false,
         Stage::Ending {
             phase: _,
-            next: _,
+            then: _,
             light: _,
             walker: _,
         } => false,
-        Stage::ClearanceGreen { spent: _ } => false,
-        Stage::ClearanceYellow { spent: _ } => false,
-        Stage::ClearanceRed { spent: _ } => false,
+        Stage::ClearanceGreen { spent: _ } => false, // green on the track, but for a train
         Stage::Dwell => false,
     }
 }

@@ -1,4 +1,4 @@
--- The contracts of `start`, `tick`, `pass` and `load` fix the reply and ask nothing: each is an equation with a definition. Assumes nothing.
+-- The contract of each public function of the crate fixes the reply and asks nothing: it is an equation with a definition. Assumes nothing.
 use mathlib.Core.Path.{sym, _∙_, refl}
 use Rattle.units.specs.Fixed.{Fixes, AsksNothing}
 use Rattle.unit.proofs.start.Kinds as start-kinds

@@ -1,9 +1,9 @@
--- Over any events the issue held never falls, a unit that fits goes on fitting, and from a fresh start none is answered 20: event by event.
--- Assumes nothing.
+-- Over any events the issue held never falls and a unit that fits goes on fitting; one that fits is answered 20 by no tick, and by no load whose
+-- sheet is not refused so itself: event by event. Assumes nothing.
 use Prim.Native.Nat.{_≤_}
 use mathlib.Core.Bool.{Bool, true, false}
 use mathlib.Core.List.{[], _∷_}
-use mathlib.Core.Path.{_≡_, sym, ap, subst, _∙_}
+use mathlib.Core.Path.{_≡_, sym, ap, _∙_}
 use native.Mathlib.Nat.{le-refl, le-trans}
 use native.Mathlib.Omega.{arith}
 use Rattle.units.specs.Numbers.{pick}
@@ -15,15 +15,16 @@ use Rattle.sheet.specs.declared.Sheet.{Sheet}
 use Rattle.sheet.specs.Refusals.{isFine, answerNumber, orElse, unless}
 use Rattle.sheet.proofs.Answers.{is-fine}
 use Rattle.lines.specs.Worksheet.{worksheetOf}
-use Rattle.unit.specs.declared.Command.{Command}
-use Rattle.unit.specs.declared.Ticked.{Ticked}
+use Rattle.stage.specs.declared.Command.{Command}
+use Rattle.flow.specs.Tick.{ticked}
+use Rattle.unit.specs.declared.Reply.{Reply}
 use Rattle.unit.specs.declared.Unit.{Unit}
-use Rattle.unit.specs.Unit.{lengthsOf, accepted, fits, afterTimes, tickOf, started, startOf, resting, newer, placeAnswer, loadAnswer, loaded, loadOf}
+use Rattle.unit.specs.Unit.{lengthsOf, accepted, nowOf, fits, tickOf, started, startOf, resting, newer, placeAnswer, loadAnswer, loaded, loadOf}
 use Rattle.unit.specs.Runs.{Event, tick, load, answerTo, run}
-use Rattle.unit.specs.Promises.{OwnRefusals, IssueKept, FitsKept, StartFits, Never20}
-use Rattle.unit.proofs.Fit.{fits-sheet, fits-told, told-fits, fresh-fits, ticked-fits}
+use Rattle.unit.specs.Promises.{IssueKept, FitsKept, StartFits}
+use Rattle.unit.proofs.Fit.{fresh-fits, onward-fits}
 use Rattle.unit.proofs.Loads.{loadable, loaded-answer}
-use Rattle.unit.proofs.Refused.{command-not-twenty}
+use Rattle.unit.proofs.Refused as refused
 
 -- ---- one event: v is the unit after it, where u was before
 record After (u v : Unit) : Type 0 where
@@ -36,19 +37,13 @@ same-after u = record { fit = λ f. f; issue = le-refl _ }
 tick-after : (u : Unit) (c : Command) (call : Bool) → After u (tickOf u c call .unit)
 unfolding tickOf
 tick-after u c call =
-    cases (λ (t : Ticked). After u (t .unit)) (fits u) _ _
-    (λ f.
-    let h = ticked-fits (lengthsOf (u .sheet)) (u .sheet) u c call (fits-told u f) in
-    record {
-      fit = λ _. told-fits (u .sheet) _ (fits-sheet u f) h;
-      issue = subst (λ (s : Sheet). u .sheet .issue ≤ s .issue) (sym (h .same)) (le-refl _);
-    })
-    (λ f. same-after u)
+    cases (λ (t : Reply). After u (t .unit)) (fits u) _ _
+    (λ f. record { fit = λ _. onward-fits u c call f; issue = le-refl _ }) (λ f. same-after u)
 
 load-after : (u : Unit) (s : Sheet) → After u (loadOf u s .unit)
 unfolding loaded
 load-after u s =
-    cases (λ (t : Ticked). After u (t .unit)) (isFine (loadAnswer u s)) _ _
+    cases (λ (t : Reply). After u (t .unit)) (isFine (loadAnswer u s)) _ _
     (λ e.
     let l = loadable u s (is-fine (loadAnswer u s) e) in
     record { fit = λ _. fresh-fits s (l .sheet); issue = omega (arith, l .issue) })
@@ -71,21 +66,19 @@ fits-kept u [] f = f
 fits-kept u (e ∷ es) f = fits-kept (answerTo u e .unit) es (after u e .fit f)
 
 -- ---- from a fresh start
-start-accepted : (s : Sheet) → startOf s .answer ≡ Fine → accepted s ≡ true
-unfolding started
-start-accepted s e =
-    cases (λ (t : Ticked). t .answer ≡ Fine → accepted s ≡ true) (accepted s) _ _ (λ a d. ap isFine d) (λ a d. ap isFine d) e
+pub start-accepted : (s : Sheet) → startOf s .answer ≡ Fine → accepted s ≡ true
+start-accepted s e = ap isFine (sym (refused.started-answer s (worksheetOf s .answer)) ∙ e)
 
 pub start-fits : StartFits
 unfolding started pick
 start-fits s e = rw (start-accepted s e) (fresh-fits s (start-accepted s e))
 
--- of a unit that fits, a tick is not answered 20
+-- ---- a unit that fits is not answered 20
 tick-not-twenty : (u : Unit) (c : Command) (call : Bool) → fits u ≡ true → answerNumber (tickOf u c call .answer) ≡ 20 → ⊥
 unfolding tickOf pick
-tick-not-twenty u c call f e = command-not-twenty (afterTimes (lengthsOf (u .sheet)) call u) c (rw f at e)
+tick-not-twenty u c call f e =
+    refused.not-twenty (ticked (lengthsOf (u .sheet)) (u .sheet) (nowOf u) c call .allowed) (rw f at e)
 
--- nor is a load, unless the sheet offered is itself refused so
 place-number : (a b : Bool) → answerNumber (orElse (unless a LoadNotNow 0) (unless b IssueNotNewer 0)) ≡ 20 → ⊥
 unfolding orElse unless
 place-number true true e = omega arith
@@ -97,18 +90,19 @@ unfolding orElse
 neither Fine b f g e = g e
 neither (Refused r l) b f g e = f e
 
-load-not-twenty : OwnRefusals → (u : Unit) (s : Sheet) → fits u ≡ true → answerNumber (loadOf u s .answer) ≡ 20 → ⊥
+-- what a sheet offered is refused with
+abbrev pub NotSo : Sheet → Type 0
+NotSo s = answerNumber (worksheetOf s .answer) ≡ 20 → ⊥
+
+load-not-twenty : (u : Unit) (s : Sheet) → NotSo s → fits u ≡ true → answerNumber (loadOf u s .answer) ≡ 20 → ⊥
 unfolding loadAnswer placeAnswer unless
-load-not-twenty own u s f e =
+load-not-twenty u s own f e =
     neither (unless (fits u) UnitUnfit 0) (orElse (worksheetOf s .answer) (placeAnswer u s))
     (λ z. let x = rw f at z in omega arith)
-    (neither (worksheetOf s .answer) (placeAnswer u s) (own s) (place-number (resting u) (newer (u .sheet .issue) (s .issue))))
+    (neither (worksheetOf s .answer) (placeAnswer u s) own (place-number (resting u) (newer (u .sheet .issue) (s .issue))))
     (ap answerNumber (sym (loaded-answer u s (loadAnswer u s))) ∙ e)
 
-not-twenty : OwnRefusals → (u : Unit) (e : Event) → fits u ≡ true → answerNumber (answerTo u e .answer) ≡ 20 → ⊥
+pub not-twenty : ((s : Sheet) → NotSo s) → (u : Unit) (e : Event) → fits u ≡ true → answerNumber (answerTo u e .answer) ≡ 20 → ⊥
 unfolding answerTo
 not-twenty own u (tick c call) f = tick-not-twenty u c call f
-not-twenty own u (load s) f = load-not-twenty own u s f
-
-pub never-20 : Never20
-never-20 own s a es e = not-twenty own (run (startOf s .unit) es) e (fits-kept (startOf s .unit) es (start-fits s a))
+not-twenty own u (load s) f = load-not-twenty u s (own s) f

@@ -5,43 +5,37 @@ use mathlib.Core.Path.{_≡_, refl, ap, _∙_}
 use native.Mathlib.Omega.{arith}
 use lib.ListN.{replicate}
 use Rattle.units.specs.Numbers.{pick}
+use Rattle.sheet.specs.declared.Sheet.{Sheet}
+use Rattle.stage.specs.declared.Command.the-variants.{None}
 use Rattle.stage.specs.declared.Lengths.{Lengths}
-use Rattle.unit.specs.declared.Command.the-variants.{None}
+use Rattle.flow.specs.declared.Now.{Now}
+use Rattle.flow.specs.Tick.{ticked}
 use Rattle.unit.specs.declared.Unit.{Unit}
-use Rattle.unit.specs.Unit.{lengthsOf, fits, ticked, tickOf}
-use Rattle.unit.specs.Runs.{tick, answerTo, run}
-use Rattle.unit.proofs.Fit.{fits-sheet, fits-told, told-fits, ticked-fits}
+use Rattle.unit.specs.Unit.{lengthsOf, nowOf, holding, fits, tickOf}
+use Rattle.unit.specs.Runs.{tick, answerTo, run, passing}
+use Rattle.unit.proofs.Fit.{onward, tick-is, onward-fits}
 
--- the unit after a tick by the lengths t
-abbrev pub onward : Lengths → Bool → Unit → Unit
-onward t call u = ticked t u None call .unit
+-- one of the ticks left, and none
+module _ (t : Lengths) (s : Sheet) (call : Bool) (n i : ℕ) (x : Now) where
+  pub pass-step : i < n → passing t s call (n - i) x ≡ passing t s call (n - (i + 1)) (ticked t s x None call .now)
+  unfolding passing
+  pass-step h = let m : n - i ≡ suc (n - (i + 1)) = omega arith in rw m refl
 
-module _ (t : Lengths) (call : Bool) (u : Unit) (f : fits u ≡ true) (e : lengthsOf (u .sheet) ≡ t) where
-  -- it is what a tick makes of the unit
-  one-on : answerTo u (tick None call) .unit ≡ onward t call u
-  unfolding answerTo tickOf pick
-  one-on = rw (f, e)
+  pub pass-end : n ≤ i → passing t s call (n - i) x ≡ x
+  unfolding passing
+  pass-end h = let m : n - i ≡ 0 = omega arith in rw m refl
 
-  pub still-fits : fits (onward t call u) ≡ true
-  still-fits =
-      rw (← e) (told-fits (u .sheet) _ (fits-sheet u f) (ticked-fits (lengthsOf (u .sheet)) (u .sheet) u None call (fits-told u f)))
+-- a unit that fits
+one-on : (call : Bool) (u : Unit) → fits u ≡ true → answerTo u (tick None call) .unit ≡ onward u None call
+unfolding answerTo
+one-on call u f = tick-is u None call f
 
-  pub same-lengths : lengthsOf (onward t call u .sheet) ≡ t
-  same-lengths = ap lengthsOf (sheet-kept) ∙ e
-    where
-      sheet-kept : onward t call u .sheet ≡ u .sheet
-      sheet-kept = rw (← e) (ticked-fits (lengthsOf (u .sheet)) (u .sheet) u None call (fits-told u f) .same)
-
-  -- one of the ticks left
-  pub pass-step : (n i : ℕ) → i < n → run u (replicate (n - i) (tick None call)) ≡ run (onward t call u) (replicate (n - (i + 1)) (tick None call))
-  unfolding run
-  pass-step n i h =
-      let m : n - i ≡ suc (n - (i + 1)) = omega arith in
-      rw m (ap (λ (v : Unit). run v (replicate (n - (i + 1)) (tick None call))) one-on)
-
-pub pass-end : (call : Bool) (u : Unit) (n i : ℕ) → n ≤ i → run u (replicate (n - i) (tick None call)) ≡ u
-unfolding run
-pass-end call u n i h = let m : n - i ≡ 0 = omega arith in rw m
+pub fit-passes : (call : Bool) (n : ℕ) (u : Unit) → fits u ≡ true
+    → run u (replicate n (tick None call)) ≡ holding (u .sheet) (passing (lengthsOf (u .sheet)) (u .sheet) call n (nowOf u))
+unfolding run passing
+fit-passes call zero u f = refl
+fit-passes call (suc n) u f =
+    ap (λ (v : Unit). run v (replicate n (tick None call))) (one-on call u f) ∙ fit-passes call n (onward u None call) (onward-fits u None call f)
 
 -- a unit that does not fit stays as it is
 one-stays : (call : Bool) (u : Unit) → fits u ≡ false → answerTo u (tick None call) .unit ≡ u

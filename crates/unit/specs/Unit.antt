@@ -5,30 +5,47 @@ use lib.Dec.{eqb, leb, ltb}
 use Rattle.units.specs.Numbers.{pick, both}
 use Rattle.sheet.specs.declared.Answer.{Answer}
 use Rattle.sheet.specs.declared.Answer.the-variants.{Refused}
-use Rattle.sheet.specs.declared.Refusal.the-variants.{UnitUnfit, LoadNotNow, IssueNotNewer}
+use Rattle.sheet.specs.declared.Refusal.the-variants.{UnitUnfit, LoadNotNow, IssueNotNewer, CommandNotAllowed}
 use Rattle.sheet.specs.declared.Sheet.{Sheet}
 use Rattle.sheet.specs.Refusals.{isFine, orElse, unless}
 use Rattle.sheet.specs.Zero.{zeroSheet}
+use Rattle.rules.specs.Rules.{ticks}
 use Rattle.lines.specs.Worksheet.{worksheetOf}
+use Rattle.stage.specs.declared.Command.{Command}
 use Rattle.stage.specs.declared.Lengths.{Lengths}
 use Rattle.stage.specs.declared.Stage.the-variants.{TrackGreen}
 use Rattle.stage.specs.Shown.{isTrackGreen}
-use Rattle.stage.specs.Times.{addOne}
 use Rattle.stage.specs.Fitness.{stageFits}
-use Rattle.unit.specs.declared.Command.{Command}
-use Rattle.unit.specs.declared.Ticked.{Ticked}
+use Rattle.flow.specs.declared.Now.{Now}
+use Rattle.flow.specs.declared.Ticked.{Ticked}
+use Rattle.flow.specs.Tick.{ticked}
+use Rattle.unit.specs.declared.Measured.{Measured}
+use Rattle.unit.specs.declared.Reply.{Reply}
 use Rattle.unit.specs.declared.Unit.{Unit}
-use Rattle.unit.specs.Settling.{at, settle}
-use Rattle.unit.specs.Commands.{heard, obeyed, commandAnswer}
-use Rattle.unit.specs.Calls.{readCall}
 
--- lines 3 and 51 of the sheet that the unit holds: "A tick is one tenth"
+-- what the sheet held says to the sequence: lines 3 and 51 in ticks, "A tick is one tenth", and the track's yellow and red
 abbrev pub lengthsOf : Sheet → Lengths
-lengthsOf s = record { l03 = worksheetOf s .lines .l03 .0; l51 = worksheetOf s .lines .l51 .0 }
+lengthsOf s =
+    record {
+      l03 = ticks (worksheetOf s .lines .l03);
+      l51 = ticks (worksheetOf s .lines .l51);
+      «track_yellow» = s .«track_yellow»;
+      «track_red» = s .«track_red»;
+    }
 
 -- the sheet is not refused
 abbrev pub accepted : Sheet → Bool
 accepted s = isFine (worksheetOf s .answer)
+
+abbrev pub measureOf : Sheet → Measured
+measureOf s = record { accepted = accepted s; lengths = lengthsOf s }
+
+-- what the unit shows and counts, and a unit on the sheet that shows and counts so
+abbrev pub nowOf : Unit → Now
+nowOf u = record { stage = u .stage; count = u .count }
+
+abbrev pub holding : Sheet → Now → Unit
+holding s now = record { sheet = s; stage = now .stage; count = now .count }
 
 -- ---- refusal 20
 -- "a count above line 3", and what the stage shows
@@ -36,40 +53,31 @@ unfoldable pub fitsIn : Lengths → Unit → Bool
 fitsIn t u = both (leb (u .count) (t .l03)) (stageFits t (u .sheet) (u .stage))
 
 -- "a refused sheet" before these
-unfoldable pub fits : Unit → Bool
-fits u = both (accepted (u .sheet)) (fitsIn (lengthsOf (u .sheet)) u)
+unfoldable pub fitsWith : Measured → Unit → Bool
+fitsWith m u = both (m .accepted) (fitsIn (m .lengths) u)
 
--- ---- a tick: "Each tick adds one to the times running, then takes the command, then counts the call. Stage changes then due are made at once
--- after each of the three"
-abbrev pub afterTimes : Lengths → Bool → Unit → Unit
-afterTimes t call u = settle t call (at u (addOne t (u .sheet) (u .stage)))
+abbrev pub fits : Unit → Bool
+fits u = fitsWith (measureOf (u .sheet)) u
 
-abbrev pub afterCommand : Lengths → Command → Bool → Unit → Unit
-afterCommand t c call u = settle t call (obeyed u (heard u c))
-
-abbrev pub afterCall : Lengths → Bool → Unit → Unit
-afterCall t call u = settle t call (readCall t call u)
-
-abbrev pub ticked : Lengths → Unit → Command → Bool → Ticked
-ticked t u c call =
-    record {
-      unit = afterCall t call (afterCommand t c call (afterTimes t call u));
-      answer = commandAnswer (afterTimes t call u) c;
-    }
+-- ---- a tick
+-- 23: "command not allowed now"
+abbrev pub replied : Sheet → Ticked → Reply
+replied s k = record { unit = holding s (k .now); answer = unless (k .allowed) CommandNotAllowed 0 }
 
 -- "After 20 .. the unit is unchanged"
-unfoldable pub tickOf : Unit → Command → Bool → Ticked
-tickOf u c call = pick (fits u) (ticked (lengthsOf (u .sheet)) u c call) (record { unit = u; answer = Refused UnitUnfit 0 })
+unfoldable pub tickOf : Unit → Command → Bool → Reply
+tickOf u c call =
+    pick (fits u) (replied (u .sheet) (ticked (lengthsOf (u .sheet)) (u .sheet) (nowOf u) c call)) (record { unit = u; answer = Refused UnitUnfit 0 })
 
 -- ---- a start: "track green with all times and the call count at 0"
 abbrev pub fresh : Sheet → Unit
 fresh s = record { sheet = s; stage = TrackGreen; count = 0 }
 
 -- "a refused start gives a unit in track green on that zero sheet"
-unfoldable pub started : Sheet → Answer → Ticked
+unfoldable pub started : Sheet → Answer → Reply
 started s a = pick (isFine a) (record { unit = fresh s; answer = a }) (record { unit = fresh zeroSheet; answer = a })
 
-abbrev pub startOf : Sheet → Ticked
+abbrev pub startOf : Sheet → Reply
 startOf s = started s (worksheetOf s .answer)
 
 -- ---- the loader: "takes a sheet only in normal track green with the call count at 0, and then restarts track green"
@@ -89,8 +97,8 @@ unfoldable pub loadAnswer : Unit → Sheet → Answer
 loadAnswer u s = orElse (unless (fits u) UnitUnfit 0) (orElse (worksheetOf s .answer) (placeAnswer u s))
 
 -- after "a refused load the unit is unchanged"
-unfoldable pub loaded : Unit → Sheet → Answer → Ticked
+unfoldable pub loaded : Unit → Sheet → Answer → Reply
 loaded u s a = pick (isFine a) (record { unit = fresh s; answer = a }) (record { unit = u; answer = a })
 
-abbrev pub loadOf : Unit → Sheet → Ticked
+abbrev pub loadOf : Unit → Sheet → Reply
 loadOf u s = loaded u s (loadAnswer u s)

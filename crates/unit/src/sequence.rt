@@ -1,129 +1,75 @@
-// One tick of the unit, in its three steps, and the loader.
+// One tick of the unit, many of them, and the loader.
 ghost use mathlib.Core.Path.{_≡_};
-ghost use mathlib.Core.Bool.{true};
 ghost use lib.ListN.{replicate};
-ghost use Rattle.units.specs.Numbers.{both};
-ghost use Rattle.stage.specs.Commands.{ended};
-ghost use Rattle.unit.specs.Settling.{at};
-ghost use Rattle.unit.specs.Commands.{allowed, heard, obeyed, commandAnswer};
-ghost use Rattle.unit.specs.Calls.{inNormal, countTo, counted, dwellEnds, readCall};
-ghost use Rattle.unit.specs.declared.Command.the-variants.{None};
-ghost use Rattle.unit.specs.Runs.{tick, run};
-ghost use Rattle.unit.specs.Unit.{lengthsOf, fitsIn, fits, afterTimes, afterCommand, afterCall, ticked, tickOf};
-ghost use Rattle.unit.specs.Unit.{resting, newer, placeAnswer, loadAnswer, loaded, loadOf};
-use super::Command;
-use super::Ticked;
+ghost use Rattle.sheet.specs.Refusals.{orElse, unless};
+ghost use Rattle.stage.specs.declared.Command.the-variants.{None};
+ghost use Rattle.unit.specs.Runs.{tick, run, passing};
+ghost use Rattle.unit.specs.Unit.{nowOf, holding, fitsIn, fitsWith, fits, replied, tickOf, resting, newer, placeAnswer, loadAnswer, loaded, loadOf};
+use super::Measured;
+use super::Reply;
 use super::Unit;
+use flow::Now;
+use flow::Ticked;
 use sheet::Answer;
 use sheet::Refusal;
 use sheet::Sheet;
+use stage::Command;
 use stage::Lengths;
-use stage::Stage;
 
-// The command.
-impl Unit {
-    fn allowed(self, command: Command) -> bool
-        ensures { λ r. ⌜ r ≡ allowed self command ⌝ }
-    {
-        let sheet = self.sheet;
-        let stage = self.stage;
-        match command {
-            Command::None => true,
-            Command::End(next) => stage::allowed_at(sheet, stage, next),
-        }
-    }
-
-    fn heard(self, command: Command) -> Command
-        ensures { λ r. ⌜ r ≡ heard self command ⌝ }
-    {
-        if self.allowed(command) {
-            command
-        } else {
-            Command::None // the tick passes as with none
-        }
-    }
-
-    fn ended(self, next: u32) -> Unit
-        ensures { λ r. ⌜ r ≡ at self (ended next (self .stage)) ⌝ }
-    {
-        let stage = self.stage;
-        self.at(stage::ended(next, stage))
-    }
-
-    fn obeyed(self, command: Command) -> Unit
-        ensures { λ r. ⌜ r ≡ obeyed self command ⌝ }
-    {
-        match command {
-            Command::None => self,
-            Command::End(next) => self.ended(next),
-        }
-    }
-
-    fn command_answer(self, command: Command) -> Answer
-        ensures { λ r. ⌜ r ≡ commandAnswer self command ⌝ }
-    {
-        if self.allowed(command) {
-            Answer::Fine
-        } else {
-            Answer::Refused(Refusal::CommandNotAllowed, 0)
-        }
-    }
-}
-
-fn dwell_ends(call: bool, stage: Stage) -> bool
-    ensures { λ r. ⌜ r ≡ dwellEnds call stage ⌝ }
+// A refusal without a line, unless the test holds.
+fn refuse_unless(holds: bool, refusal: Refusal) -> Answer
+    ensures { λ r. ⌜ r ≡ unless holds refusal 0 ⌝ }
 {
-    if call { false } else { stage::is_dwell(stage) }
-}
-
-fn count_to(t: Lengths, call: bool, count: u64) -> u64
-    ensures { λ r. ⌜ r ≡ countTo t call count ⌝ }
-{
-    if call {
-        phase::one_more(count, t.l03)
+    if holds {
+        Answer::Fine
     } else {
-        0
+        Answer::Refused(refusal, 0)
     }
 }
 
-// The call.
-impl Unit {
-    fn in_normal(self, t: Lengths) -> bool
-        ensures { λ r. ⌜ r ≡ inNormal t self ⌝ }
-    {
-        let stage = self.stage;
-        if self.begun(t) {
-            false // in the transfer the call is not counted
-        } else {
-            stage::normal_stage(stage)
-        }
+fn or_else(first: Answer, second: Answer) -> Answer
+    ensures { λ r. ⌜ r ≡ orElse first second ⌝ }
+{
+    match first {
+        Answer::Fine => second,
+        Answer::Refused(_, _) => first,
     }
+}
 
-    fn counted(self, t: Lengths, call: bool) -> Unit
-        ensures { λ r. ⌜ r ≡ counted t call self ⌝ }
-    {
-        let sheet = self.sheet;
-        let stage = self.stage;
-        Unit {
-            sheet: sheet,
-            stage: stage,
-            count: count_to(t, call, self.count),
-        }
+fn holding(sheet: Sheet, now: Now) -> Unit
+    ensures { λ r. ⌜ r ≡ holding sheet now ⌝ }
+{
+    let stage = now.stage;
+    Unit {
+        sheet: sheet,
+        stage: stage,
+        count: now.count,
     }
+}
 
-    fn read_call(self, t: Lengths, call: bool) -> Unit
-        ensures { λ r. ⌜ r ≡ readCall t call self ⌝ }
-    {
-        if self.in_normal(t) {
-            return self.counted(t, call);
-        }
-        let stage = self.stage;
-        if dwell_ends(call, stage) {
-            self.normal()
-        } else {
-            self
-        }
+fn replied(sheet: Sheet, ticked: Ticked) -> Reply
+    ensures { λ r. ⌜ r ≡ replied sheet ticked ⌝ }
+{
+    let now = ticked.now;
+    Reply {
+        unit: holding(sheet, now),
+        answer: refuse_unless(ticked.allowed, Refusal::CommandNotAllowed),
     }
+}
+
+// The ticks of a unit that fits, by the lengths of its sheet.
+fn passing(t: Lengths, sheet: Sheet, call: bool, count: u32, start: Now) -> Now
+    ensures { λ r. ⌜ r ≡ passing t sheet call count start ⌝ }
+{
+    let mut now = start;
+    let mut i: u32 = 0;
+    while i < count {
+        let next = now.tick(t, sheet, Command::None, call);
+        let later = next.now;
+        now = later;
+        i += 1;
+    }
+    now
 }
 
 fn newer(held: u32, offered: u32) -> bool
@@ -132,8 +78,17 @@ fn newer(held: u32, offered: u32) -> bool
     held < offered
 }
 
-// The tick and the loader.
 impl Unit {
+    fn now(self) -> Now
+        ensures { λ r. ⌜ r ≡ nowOf self ⌝ }
+    {
+        let stage = self.stage;
+        Now {
+            stage: stage,
+            count: self.count,
+        }
+    }
+
     fn fits_in(self, t: Lengths) -> bool
         ensures { λ r. ⌜ r ≡ fitsIn t self ⌝ }
     {
@@ -146,87 +101,35 @@ impl Unit {
         }
     }
 
-    fn fits_with(self, accepted: bool, t: Lengths) -> bool
-        ensures { λ r. ⌜ r ≡ both accepted (fitsIn t self) ⌝ }
+    fn fits_with(self, m: Measured) -> bool
+        ensures { λ r. ⌜ r ≡ fitsWith m self ⌝ }
     {
-        if accepted { self.fits_in(t) } else { false }
+        let t = m.lengths;
+        if m.accepted { self.fits_in(t) } else { false }
     }
 
     fn fits(self) -> bool
         ensures { λ r. ⌜ r ≡ fits self ⌝ }
     {
         let sheet = self.sheet;
-        let m = super::measure(sheet);
-        let t = m.lengths;
-        self.fits_with(m.accepted, t)
-    }
-
-    fn after_times(self, t: Lengths, call: bool) -> Unit
-        ensures { λ r. ⌜ r ≡ afterTimes t call self ⌝ }
-    {
-        let sheet = self.sheet;
-        let stage = self.stage;
-        self.at(stage::add_one(t, sheet, stage)).settle(t, call)
-    }
-
-    fn after_command(self, t: Lengths, command: Command, call: bool) -> Unit
-        ensures { λ r. ⌜ r ≡ afterCommand t command call self ⌝ }
-    {
-        let heard = self.heard(command);
-        self.obeyed(heard).settle(t, call)
-    }
-
-    fn after_call(self, t: Lengths, call: bool) -> Unit
-        ensures { λ r. ⌜ r ≡ afterCall t call self ⌝ }
-    {
-        self.read_call(t, call).settle(t, call)
-    }
-
-    fn ticked(self, t: Lengths, command: Command, call: bool) -> Ticked
-        ensures { λ r. ⌜ r ≡ ticked t self command call ⌝ }
-    {
-        let first = self.after_times(t, call);
-        let second = first.after_command(t, command, call);
-        let third = second.after_call(t, call);
-        let answer = first.command_answer(command);
-        Ticked {
-            unit: third,
-            answer: answer,
-        }
+        self.fits_with(super::measure(sheet))
     }
 
     // One tenth of a second, with the command and the call of it.
-    pub fn tick(self, command: Command, call: bool) -> Ticked
+    pub fn tick(self, command: Command, call: bool) -> Reply
         ensures { λ r. ⌜ r ≡ tickOf self command call ⌝ }
     {
         let sheet = self.sheet;
         let m = super::measure(sheet);
         let t = m.lengths;
-        if self.fits_with(m.accepted, t) {
-            self.ticked(t, command, call)
+        if self.fits_with(m) {
+            replied(sheet, self.now().tick(t, sheet, command, call))
         } else {
-            let answer = Answer::Refused(Refusal::UnitUnfit, 0);
-            Ticked {
-                unit: self,
-                answer: answer,
+            Reply {
+                unit: self, // unchanged
+                answer: Answer::Refused(Refusal::UnitUnfit, 0),
             }
         }
-    }
-
-    // The ticks of a unit that fits, by the lengths of its sheet.
-    fn passed(self, t: Lengths, call: bool, count: u32) -> Unit
-        requires { ⌜ (fits self ≡ true) × (lengthsOf (self .sheet) ≡ t) ⌝ }
-        ensures { λ r. ⌜ r ≡ run self (replicate count (tick None call)) ⌝ }
-    {
-        let mut now = self;
-        let mut i: u32 = 0;
-        while i < count {
-            let next = now.ticked(t, Command::None, call);
-            let unit = next.unit;
-            now = unit;
-            i += 1;
-        }
-        now
     }
 
     // That many ticks with the call and no command: the worksheet is worked out once for all of them.
@@ -236,10 +139,10 @@ impl Unit {
         let sheet = self.sheet;
         let m = super::measure(sheet);
         let t = m.lengths;
-        if self.fits_with(m.accepted, t) {
-            self.passed(t, call, count)
+        if self.fits_with(m) {
+            holding(sheet, passing(t, sheet, call, count, self.now()))
         } else {
-            self
+            self // unchanged
         }
     }
 
@@ -257,39 +160,32 @@ impl Unit {
     fn place_answer(self, sheet: Sheet) -> Answer
         ensures { λ r. ⌜ r ≡ placeAnswer self sheet ⌝ }
     {
-        if self.resting() {
-            if newer(self.sheet.issue, sheet.issue) {
-                return Answer::Fine;
-            }
-            return Answer::Refused(Refusal::IssueNotNewer, 0);
-        }
-        Answer::Refused(Refusal::LoadNotNow, 0)
+        let place = refuse_unless(self.resting(), Refusal::LoadNotNow);
+        let newer = newer(self.sheet.issue, sheet.issue);
+        let issue = refuse_unless(newer, Refusal::IssueNotNewer);
+        or_else(place, issue)
     }
 
     fn load_answer(self, sheet: Sheet) -> Answer
         ensures { λ r. ⌜ r ≡ loadAnswer self sheet ⌝ }
     {
+        let unfit = refuse_unless(self.fits(), Refusal::UnitUnfit);
         let worked = lines::worksheet(sheet);
         let own = worked.answer;
-        if self.fits() {
-            if sheet::is_fine(own) {
-                return self.place_answer(sheet);
-            }
-            return own;
-        }
-        Answer::Refused(Refusal::UnitUnfit, 0)
+        let later = or_else(own, self.place_answer(sheet));
+        or_else(unfit, later)
     }
 
-    fn loaded(self, sheet: Sheet, answer: Answer) -> Ticked
+    fn loaded(self, sheet: Sheet, answer: Answer) -> Reply
         ensures { λ r. ⌜ r ≡ loaded self sheet answer ⌝ }
     {
         if sheet::is_fine(answer) {
-            Ticked {
+            Reply {
                 unit: super::fresh(sheet),
                 answer: answer,
             }
         } else {
-            Ticked {
+            Reply {
                 unit: self,
                 answer: answer,
             }
@@ -297,7 +193,7 @@ impl Unit {
     }
 
     // The loader.
-    pub fn load(self, sheet: Sheet) -> Ticked
+    pub fn load(self, sheet: Sheet) -> Reply
         ensures { λ r. ⌜ r ≡ loadOf self sheet ⌝ }
     {
         let answer = self.load_answer(sheet);

@@ -13,8 +13,7 @@ add-walker-requires : tie.Need-add-walker-requires
 add-walker-requires c κs = search needs
 
 returns : tie.Need-returns
-returns c =
-    cc
+returns c = cc
 
 pub add-ending-spec : {M : Type 1} → statement M
 add-ending-spec =

@@ -1,6 +1,6 @@
--- `stage::add_one` meets its contract, arm by arm. Assumes nothing.
-use Rattle.stage.specs.Times.{addOne}
+-- `stage::add_one` meets its contract: arm by arm. Assumes nothing.
 use Rattle.units.proofs.Steps.{steps, arm3}
+use Rattle.stage.specs.Times.{addOne}
 use borrow.Author.Needs.{needs}
 use Rattle.stage.proofs.add_one.Statement.{statement}
 use Rattle.stage.proofs.add_one.Tie as tie
@@ -11,17 +11,11 @@ enum-told c = search needs
 enum-known-stage : tie.Need-enum-known-stage
 enum-known-stage c = search needs
 
-cast-one-more : tie.Need-cast-one-more
-cast-one-more c = search needs
-
 one-more-requires : tie.Need-one-more-requires
 one-more-requires c κs = search needs
 
 enum-known-stage-2 : tie.Need-enum-known-stage-2
 enum-known-stage-2 c = search needs
-
-cast-one-more-2 : tie.Need-cast-one-more-2
-cast-one-more-2 c = search needs
 
 one-more-requires-2 : tie.Need-one-more-requires-2
 one-more-requires-2 c κs = search needs
@@ -44,71 +38,36 @@ enum-known-stage-5 c = search needs
 one-more-requires-3 : tie.Need-one-more-requires-3
 one-more-requires-3 c κs = search needs
 
-enum-known-stage-6 : tie.Need-enum-known-stage-6
-enum-known-stage-6 c = search needs
-
-cast-one-more-3 : tie.Need-cast-one-more-3
-cast-one-more-3 c = search needs
-
-one-more-requires-4 : tie.Need-one-more-requires-4
-one-more-requires-4 c κs = search needs
-
-enum-known-stage-7 : tie.Need-enum-known-stage-7
-enum-known-stage-7 c = search needs
-
-cast-one-more-4 : tie.Need-cast-one-more-4
-cast-one-more-4 c = search needs
-
-one-more-requires-5 : tie.Need-one-more-requires-5
-one-more-requires-5 c κs = search needs
-
 enum-told-2 : tie.Need-enum-told-2
 enum-told-2 c = search needs
 
 returns : tie.Need-returns
 unfolding addOne
-returns c =
-    search (arm3 addOne, steps)
+returns c = search (arm3 addOne, steps)
 
 returns-2 : tie.Need-returns-2
 unfolding addOne
-returns-2 c =
-    search (arm3 addOne, steps)
+returns-2 c = search (arm3 addOne, steps)
 
 returns-3 : tie.Need-returns-3
 unfolding addOne
-returns-3 c =
-    search (arm3 addOne, steps)
+returns-3 c = search (arm3 addOne, steps)
 
 returns-4 : tie.Need-returns-4
 unfolding addOne
-returns-4 c =
-    search (arm3 addOne, steps)
+returns-4 c = search (arm3 addOne, steps)
 
 returns-5 : tie.Need-returns-5
 unfolding addOne
-returns-5 c =
-    search (arm3 addOne, steps)
+returns-5 c = search (arm3 addOne, steps)
 
 returns-6 : tie.Need-returns-6
 unfolding addOne
-returns-6 c =
-    search (arm3 addOne, steps)
+returns-6 c = search (arm3 addOne, steps)
 
 returns-7 : tie.Need-returns-7
 unfolding addOne
-returns-7 c =
-    search (arm3 addOne, steps)
-
-returns-8 : tie.Need-returns-8
-unfolding addOne
-returns-8 c =
-    search (arm3 addOne, steps)
-
-returns-9 : tie.Need-returns-9
-unfolding addOne
-returns-9 c =
-    search (arm3 addOne, steps)
+returns-7 c = search (arm3 addOne, steps)
 
 pub add-one-spec : {M : Type 1} → statement M
 add-one-spec =
@@ -116,10 +75,8 @@ add-one-spec =
     (tie.spec
     enum-told
     enum-known-stage
-    cast-one-more
     one-more-requires
     enum-known-stage-2
-    cast-one-more-2
     one-more-requires-2
     enum-known-stage-3
     add-open-requires
@@ -127,12 +84,6 @@ add-one-spec =
     add-ending-requires
     enum-known-stage-5
     one-more-requires-3
-    enum-known-stage-6
-    cast-one-more-3
-    one-more-requires-4
-    enum-known-stage-7
-    cast-one-more-4
-    one-more-requires-5
     enum-told-2
     returns
     returns-2
@@ -140,6 +91,4 @@ add-one-spec =
     returns-4
     returns-5
     returns-6
-    returns-7
-    returns-8
-    returns-9)
+    returns-7)

@@ -19,8 +19,7 @@ one-more-requires-2 : tie.Need-one-more-requires-2
 one-more-requires-2 c κs = search needs
 
 returns : tie.Need-returns
-returns c =
-    cc
+returns c = cc
 
 pub add-open-spec : {M : Type 1} → statement M
 add-open-spec =

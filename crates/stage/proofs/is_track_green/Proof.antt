@@ -1,6 +1,6 @@
--- `stage::is_track_green` meets its contract, arm by arm. Assumes nothing.
-use Rattle.stage.specs.Shown.{isTrackGreen}
+-- `stage::is_track_green` meets its contract: arm by arm. Assumes nothing.
 use Rattle.units.proofs.Steps.{steps, arm}
+use Rattle.stage.specs.Shown.{isTrackGreen}
 use borrow.Author.Needs.{needs}
 use Rattle.stage.proofs.is_track_green.Statement.{statement}
 use Rattle.stage.proofs.is_track_green.Tie as tie
@@ -26,56 +26,33 @@ enum-told-6 c = search needs
 enum-told-7 : tie.Need-enum-told-7
 enum-told-7 c = search needs
 
-enum-told-8 : tie.Need-enum-told-8
-enum-told-8 c = search needs
-
-enum-told-9 : tie.Need-enum-told-9
-enum-told-9 c = search needs
-
 returns : tie.Need-returns
 unfolding isTrackGreen
-returns c =
-    search (arm isTrackGreen, steps)
+returns c = search (arm isTrackGreen, steps)
 
 returns-2 : tie.Need-returns-2
 unfolding isTrackGreen
-returns-2 c =
-    search (arm isTrackGreen, steps)
+returns-2 c = search (arm isTrackGreen, steps)
 
 returns-3 : tie.Need-returns-3
 unfolding isTrackGreen
-returns-3 c =
-    search (arm isTrackGreen, steps)
+returns-3 c = search (arm isTrackGreen, steps)
 
 returns-4 : tie.Need-returns-4
 unfolding isTrackGreen
-returns-4 c =
-    search (arm isTrackGreen, steps)
+returns-4 c = search (arm isTrackGreen, steps)
 
 returns-5 : tie.Need-returns-5
 unfolding isTrackGreen
-returns-5 c =
-    search (arm isTrackGreen, steps)
+returns-5 c = search (arm isTrackGreen, steps)
 
 returns-6 : tie.Need-returns-6
 unfolding isTrackGreen
-returns-6 c =
-    search (arm isTrackGreen, steps)
+returns-6 c = search (arm isTrackGreen, steps)
 
 returns-7 : tie.Need-returns-7
 unfolding isTrackGreen
-returns-7 c =
-    search (arm isTrackGreen, steps)
-
-returns-8 : tie.Need-returns-8
-unfolding isTrackGreen
-returns-8 c =
-    search (arm isTrackGreen, steps)
-
-returns-9 : tie.Need-returns-9
-unfolding isTrackGreen
-returns-9 c =
-    search (arm isTrackGreen, steps)
+returns-7 c = search (arm isTrackGreen, steps)
 
 pub is-track-green-spec : {M : Type 1} → statement M
 is-track-green-spec =
@@ -88,14 +65,10 @@ is-track-green-spec =
     enum-told-5
     enum-told-6
     enum-told-7
-    enum-told-8
-    enum-told-9
     returns
     returns-2
     returns-3
     returns-4
     returns-5
     returns-6
-    returns-7
-    returns-8
-    returns-9)
+    returns-7)

@@ -3,6 +3,12 @@ use borrow.Author.Needs.{needs}
 use Rattle.unit.proofs.measure.Statement.{statement}
 use Rattle.unit.proofs.measure.Tie as tie
 
+cast-yellow : tie.Need-cast-yellow
+cast-yellow c = search needs
+
+cast-red : tie.Need-cast-red
+cast-red c = search needs
+
 worksheet-requires : tie.Need-worksheet-requires
 worksheet-requires c κs = search needs
 
@@ -16,10 +22,16 @@ is-fine-requires : tie.Need-is-fine-requires
 is-fine-requires c κs = search needs
 
 returns : tie.Need-returns
-returns c =
-    (cc, cc)
+returns c = cc
 
 pub measure-spec : {M : Type 1} → statement M
 measure-spec =
     tie.close
-    (tie.spec worksheet-requires ticks-requires ticks-requires-2 is-fine-requires returns)
+    (tie.spec
+    cast-yellow
+    cast-red
+    worksheet-requires
+    ticks-requires
+    ticks-requires-2
+    is-fine-requires
+    returns)

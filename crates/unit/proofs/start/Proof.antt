@@ -10,8 +10,7 @@ started-requires : tie.Need-started-requires
 started-requires c κs = search needs
 
 returns : tie.Need-returns
-returns c =
-    cc
+returns c = cc
 
 pub start-spec : {M : Type 1} → statement M
 start-spec = tie.close (tie.spec worksheet-requires started-requires returns)

@@ -1,5 +1,6 @@
--- `unit::Unit::fits_with` meets its contract, branch by branch. Assumes nothing.
+-- `unit::Unit::fits_with` meets its contract: test by test. Assumes nothing.
 use Rattle.units.proofs.Steps.{steps}
+use Rattle.unit.specs.Unit.{fitsWith}
 use borrow.Author.Needs.{needs}
 use Rattle.unit.proofs.Unit.fits_with.Statement.{statement}
 use Rattle.unit.proofs.Unit.fits_with.Tie as tie
@@ -8,12 +9,12 @@ fits-in-requires : tie.Need-fits-in-requires
 fits-in-requires c κs = search needs
 
 returns : tie.Need-returns
-returns c =
-    search steps
+unfolding fitsWith
+returns c = search steps
 
 returns-2 : tie.Need-returns-2
-returns-2 c =
-    search steps
+unfolding fitsWith
+returns-2 c = search steps
 
 pub fits-with-spec : {M : Type 1} → statement M
 fits-with-spec = tie.close (tie.spec fits-in-requires returns returns-2)

@@ -10,8 +10,7 @@ loaded-requires : tie.Need-loaded-requires
 loaded-requires c κs = search needs
 
 returns : tie.Need-returns
-returns c =
-    cc
+returns c = cc
 
 pub load-spec : {M : Type 1} → statement M
 load-spec = tie.close (tie.spec load-answer-requires loaded-requires returns)

@@ -1,6 +1,4 @@
--- `unit::Unit::place_answer` meets its contract, branch by branch. Assumes nothing.
-use mathlib.Core.Path.{sym, _∙_, refl}
-use Rattle.sheet.specs.Refusals.{orElse, unless}
+-- `unit::Unit::place_answer` meets its contract: a composition of calls, each replaced by what it ensures. Assumes nothing.
 use Rattle.unit.specs.Unit.{placeAnswer}
 use borrow.Author.Needs.{needs}
 use Rattle.unit.proofs.Unit.place_answer.Statement.{statement}
@@ -9,24 +7,29 @@ use Rattle.unit.proofs.Unit.place_answer.Tie as tie
 resting-requires : tie.Need-resting-requires
 resting-requires c κs = search needs
 
+refuse-unless-requires : tie.Need-refuse-unless-requires
+refuse-unless-requires c κs = search needs
+
 newer-requires : tie.Need-newer-requires
 newer-requires c κs = search needs
 
+refuse-unless-requires-2 : tie.Need-refuse-unless-requires-2
+refuse-unless-requires-2 c κs = search needs
+
+or-else-requires : tie.Need-or-else-requires
+or-else-requires c κs = search needs
+
 returns : tie.Need-returns
-unfolding placeAnswer orElse unless
-returns c =
-    rw (sym (c .before .before .before .resting .ensures) ∙ c .before .before .if1 .taken) (rw (sym (c .before .newer .ensures) ∙ c .if2 .taken) refl)
-
-returns-2 : tie.Need-returns-2
-unfolding placeAnswer orElse unless
-returns-2 c =
-    rw (sym (c .before .before .before .resting .ensures) ∙ c .before .before .if1 .taken) (rw (sym (c .before .newer .ensures) ∙ c .if2 .left) refl)
-
-returns-3 : tie.Need-returns-3
-unfolding placeAnswer orElse unless
-returns-3 c =
-    rw (sym (c .before .resting .ensures) ∙ c .if1 .left) refl
+unfolding placeAnswer
+returns c = cc
 
 pub place-answer-spec : {M : Type 1} → statement M
 place-answer-spec =
-    tie.close (tie.spec resting-requires newer-requires returns returns-2 returns-3)
+    tie.close
+    (tie.spec
+    resting-requires
+    refuse-unless-requires
+    newer-requires
+    refuse-unless-requires-2
+    or-else-requires
+    returns)
