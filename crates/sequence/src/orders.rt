@@ -1,14 +1,22 @@
 // The events of a run: `tick=CALL`, `tick=CALL,NEXT`, `ticks=CALL,COUNT` and `load`, each a whole line.
 use reader::Figure;
 use reader::Place;
+use stage::Command;
 
 pub enum Order {
-    // the call, how many ticks, and the place of the next line
-    Ticks(bool, u32, usize),
-    // the call, the phase that is next, and the place of the next line
-    End(bool, u32, usize),
-    Load(usize),
-    Malformed,
+    // the command and the call at each tick, and how many ticks
+    Ticks(Command, bool, u32),
+    // the places where the text offered starts and ends
+    Load(usize, usize),
+}
+
+// An order, the place of the next one, and how many lines and ticks this one is.
+pub struct Event {
+    pub malformed: bool,
+    pub order: Order,
+    pub next: usize,
+    pub lines: u64,
+    pub ticks: u64,
 }
 
 // A line that is a word alone: its place, the place past it, and how many lines stand before it.
@@ -51,54 +59,78 @@ fn nowhere() -> Marked {
     }
 }
 
-pub(crate) fn read_order(s: &[u8], at: usize) -> Order {
+pub(crate) fn read_event(s: &[u8], at: usize) -> Event {
     if let Place::At(p) = reader::after(s, at, b"load\n") {
-        return Order::Load(p);
+        return load_event(s, p);
     }
     if let Place::At(p) = reader::after(s, at, b"ticks=") {
-        return ticks_order(s, p);
+        return ticks_event(s, p);
     }
     if let Place::At(p) = reader::after(s, at, b"tick=") {
-        return tick_order(s, p);
+        return tick_event(s, p);
     }
-    Order::Malformed
+    malformed()
+}
+
+fn malformed() -> Event {
+    Event {
+        malformed: true,
+        order: Order::Load(0, 0),
+        next: 0,
+        lines: 0,
+        ticks: 0,
+    }
+}
+
+// A load's text ends with a line `done`; without one the load itself is malformed.
+fn load_event(s: &[u8], start: usize) -> Event {
+    let done = find_line(s, start, b"done\n");
+    Event {
+        malformed: !done.found,
+        order: Order::Load(start, done.start),
+        next: done.next,
+        lines: std::num::wrapping_add_u64(done.lines, 2),
+        ticks: 0,
+    }
+}
+
+// Ticks are an order where the line ends after them.
+fn ticked(s: &[u8], at: usize, command: Command, call: u32, count: u32) -> Event {
+    match reader::after(s, at, b"\n") {
+        Place::At(next) => Event {
+            malformed: count == 0,
+            order: Order::Ticks(command, call == 1, count),
+            next: next,
+            lines: 1,
+            ticks: count as u64,
+        },
+        Place::Nowhere => malformed(),
+    }
 }
 
 // CALL,COUNT
-fn ticks_order(s: &[u8], at: usize) -> Order {
+fn ticks_event(s: &[u8], at: usize) -> Event {
     let Figure::Is(call, p) = call_at(s, at) else {
-        return Order::Malformed;
+        return malformed();
     };
-    let Figure::Is(count, q) = second(s, p) else {
-        return Order::Malformed;
-    };
-    if count == 0 {
-        return Order::Malformed;
-    }
-    match reader::after(s, q, b"\n") {
-        Place::At(next) => Order::Ticks(call == 1, count, next),
-        Place::Nowhere => Order::Malformed,
+    match second(s, p) {
+        Figure::Is(count, q) => ticked(s, q, Command::None, call, count),
+        Figure::Bad => malformed(),
     }
 }
 
 // CALL, or CALL,NEXT
-fn tick_order(s: &[u8], at: usize) -> Order {
+fn tick_event(s: &[u8], at: usize) -> Event {
     let Figure::Is(call, p) = call_at(s, at) else {
-        return Order::Malformed;
+        return malformed();
     };
-    if let Place::At(next) = reader::after(s, p, b"\n") {
-        return Order::Ticks(call == 1, 1, next);
-    }
     let Figure::Is(phase, q) = second(s, p) else {
-        return Order::Malformed;
+        return ticked(s, p, Command::None, call, 1);
     };
     if 255 < phase {
-        return Order::Malformed;
+        return malformed();
     }
-    match reader::after(s, q, b"\n") {
-        Place::At(next) => Order::End(call == 1, phase, next),
-        Place::Nowhere => Order::Malformed,
-    }
+    ticked(s, q, Command::End(phase), call, 1)
 }
 
 // 0 or 1

@@ -2,9 +2,11 @@
 use libc::STDOUT_FILENO;
 use phase::Light;
 use phase::Walker;
+use stage::Place;
 use stage::Stage;
 
-// Stages and walkers by their place in the lists that `print` has.
+// The stage: 0, 1, 2 the track's green, yellow and red, 3 to 5 those of a phase, 6 to 8 those of track clearance, 9 dwell. The walker: 0 none, 1 walk,
+// 2 clearance.
 pub struct Shown {
     pub stage: u32,
     pub phase: u32,
@@ -21,10 +23,41 @@ fn plain(stage: u32) -> Shown {
 
 pub(crate) fn of(unit: unit::Unit) -> Shown {
     let stage = unit.stage;
+    let phase = stage::phase_of(unit.sheet, number(stage));
+    seen(stage, phase)
+}
+
+// The phase that is shown, 0 where none is.
+fn number(stage: Stage) -> u32 {
+    match stage {
+        Stage::Open {
+            phase,
+            green: _,
+            walk: _,
+        } => phase,
+        Stage::Ending {
+            phase,
+            then: _,
+            light: _,
+            walker: _,
+        } => phase,
+        _ => 0,
+    }
+}
+
+fn seen(stage: Stage, p: sheet::Phase) -> Shown {
     match stage {
         Stage::TrackGreen => plain(0),
-        Stage::TrackYellow { next: _, spent: _ } => plain(1),
-        Stage::TrackRed { next: _, spent: _ } => plain(2),
+        Stage::TrackYellow {
+            place,
+            then: _,
+            spent: _,
+        } => plain(placed(place, 1, 7)),
+        Stage::TrackRed {
+            place,
+            then: _,
+            spent: _,
+        } => plain(placed(place, 2, 8)),
         Stage::Open {
             phase,
             green: _,
@@ -32,22 +65,28 @@ pub(crate) fn of(unit: unit::Unit) -> Shown {
         } => Shown {
             stage: 3,
             phase: phase,
-            walker: walker(stage::phase_of(unit.sheet, phase), Walker::Walk(walk)),
+            walker: walker(p, Walker::Walk(walk)),
         },
         Stage::Ending {
             phase,
-            next: _,
+            then: _,
             light,
             walker: w,
         } => Shown {
             stage: lit(light),
             phase: phase,
-            walker: walker(stage::phase_of(unit.sheet, phase), w),
+            walker: walker(p, w),
         },
         Stage::ClearanceGreen { spent: _ } => plain(6),
-        Stage::ClearanceYellow { spent: _ } => plain(7),
-        Stage::ClearanceRed { spent: _ } => plain(8),
         Stage::Dwell => plain(9),
+    }
+}
+
+// The track's yellow and red are also those that follow track clearance green.
+fn placed(place: Place, normal: u32, train: u32) -> u32 {
+    match place {
+        Place::Normal => normal,
+        Place::Train => train,
     }
 }
 
@@ -84,21 +123,32 @@ pub(crate) fn same(a: Shown, b: Shown) -> bool {
 
 // ,STAGE,PHASE,WALKER,
 pub(crate) fn print(shown: Shown) {
-    let stage = shown.stage;
-    match stage {
-        0 => print_name(b",track-green,"),
-        1 => print_name(b",track-yellow,"),
-        2 => print_name(b",track-red,"),
-        3 => print_name(b",phase-green,"),
-        4 => print_name(b",phase-yellow,"),
-        5 => print_name(b",phase-red,"),
-        6 => print_name(b",clearance-green,"),
-        7 => print_name(b",clearance-yellow,"),
-        8 => print_name(b",clearance-red,"),
-        _ => print_name(b",dwell,"),
+    print_place(shown.stage / 3);
+    if shown.stage < 9 {
+        print_light(shown.stage % 3);
     }
     io::print_decimal(STDOUT_FILENO, shown.phase as u64);
-    let walker = shown.walker;
+    print_walker(shown.walker);
+}
+
+fn print_place(place: u32) {
+    match place {
+        0 => print_name(b",track-"),
+        1 => print_name(b",phase-"),
+        2 => print_name(b",clearance-"),
+        _ => print_name(b",dwell,"),
+    }
+}
+
+fn print_light(light: u32) {
+    match light {
+        0 => print_name(b"green,"),
+        1 => print_name(b"yellow,"),
+        _ => print_name(b"red,"),
+    }
+}
+
+fn print_walker(walker: u32) {
     match walker {
         1 => print_name(b",walk,"),
         2 => print_name(b",clearance,"),

@@ -48,10 +48,11 @@ fn report(text: &[u8]) {
     print_lines(worked.lines);
 }
 
-// The buffer is one byte longer than the longest text there can be: a text that is cut by it gets the reply of the whole text
-// (`CutIsSame` of crate trips). An input that is closed or fails is read as an empty text.
+// The buffer is one byte longer than the longest text there can be (`reader::buffer`): a text that is cut by it gets the reply of the whole text
+// (`CutIsSame` of crate trips). A read that fails ends the text where it failed: what came before it is read as the text, and an input that is closed as
+// an empty one.
 fn main() {
-    let mut buffer = [0u8; 1070];
+    let mut buffer = [0u8; reader::BUFFER];
     let n = io::read_full(STDIN_FILENO, &mut buffer);
     report(&buffer[..n]);
 }

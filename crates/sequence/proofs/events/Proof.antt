@@ -5,10 +5,10 @@ use Rattle.sequence.proofs.events.Statement.{statement}
 use Rattle.sequence.proofs.events.Tie as tie
 
 abbrev Inv-loop : tie.InvT-loop
-Inv-loop s run₀ left₀ run left = left ≤ 65537
+Inv-loop s from first-line unit₀ tick₀ at₀ line₀ left₀ unit tick at line left = left ≤ 65537
 
 abbrev μ-loop : tie.MeasureT-loop
-μ-loop s run₀ left₀ run left = left
+μ-loop s from first-line unit₀ tick₀ at₀ line₀ left₀ unit tick at line left = left
 
 loop-holds : tie.Need-loop-holds Inv-loop μ-loop
 loop-holds c = search needs
@@ -16,11 +16,23 @@ loop-holds c = search needs
 returns : tie.Need-returns Inv-loop μ-loop
 returns c = search needs
 
+read-event-requires : tie.Need-read-event-requires Inv-loop μ-loop
+read-event-requires c κs = search needs
+
+print-refusal-requires : tie.Need-print-refusal-requires Inv-loop μ-loop
+print-refusal-requires c κs = search needs
+
 returns-2 : tie.Need-returns-2 Inv-loop μ-loop
 returns-2 c = search needs
 
-event-requires : tie.Need-event-requires Inv-loop μ-loop
-event-requires c κs = search needs
+obey-requires : tie.Need-obey-requires Inv-loop μ-loop
+obey-requires c κs = search needs
+
+wrapping-add-u64-requires : tie.Need-wrapping-add-u64-requires Inv-loop μ-loop
+wrapping-add-u64-requires c κs = search needs
+
+wrapping-add-u64-requires-2 : tie.Need-wrapping-add-u64-requires-2 Inv-loop μ-loop
+wrapping-add-u64-requires-2 c κs = search needs
 
 sub-left : tie.Need-sub-left Inv-loop μ-loop
 sub-left c = search needs
@@ -42,8 +54,12 @@ events-spec =
     μ-loop
     loop-holds
     returns
+    read-event-requires
+    print-refusal-requires
     returns-2
-    event-requires
+    obey-requires
+    wrapping-add-u64-requires
+    wrapping-add-u64-requires-2
     sub-left
     loop-less
     loop-again

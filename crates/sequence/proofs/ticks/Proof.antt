@@ -5,16 +5,28 @@ use Rattle.sequence.proofs.ticks.Statement.{statement}
 use Rattle.sequence.proofs.ticks.Tie as tie
 
 abbrev Inv-loop : tie.InvT-loop
-Inv-loop call count now₀ i₀ now i = i ≤ count
+Inv-loop from command call count unit₀ tick₀ before₀ i₀ unit tick before i = i ≤ count
 
 abbrev μ-loop : tie.MeasureT-loop
-μ-loop call count now₀ i₀ now i = count - i
+μ-loop from command call count unit₀ tick₀ before₀ i₀ unit tick before i = count - i
+
+of-requires : tie.Need-of-requires Inv-loop μ-loop
+of-requires c κs = search needs
 
 loop-holds : tie.Need-loop-holds Inv-loop μ-loop
 loop-holds c = search needs
 
 tick-requires : tie.Need-tick-requires Inv-loop μ-loop
 tick-requires c κs = search needs
+
+of-requires-2 : tie.Need-of-requires-2 Inv-loop μ-loop
+of-requires-2 c κs = search needs
+
+wrapping-add-u64-requires : tie.Need-wrapping-add-u64-requires Inv-loop μ-loop
+wrapping-add-u64-requires c κs = search needs
+
+print-tick-requires : tie.Need-print-tick-requires Inv-loop μ-loop
+print-tick-requires c κs = search needs
 
 add-i : tie.Need-add-i Inv-loop μ-loop
 add-i c = search needs
@@ -31,4 +43,16 @@ returns c = search needs
 pub ticks-spec : {M : Type 1} → statement M
 ticks-spec =
     tie.close
-    (tie.spec Inv-loop μ-loop loop-holds tick-requires add-i loop-less loop-again returns)
+    (tie.spec
+    Inv-loop
+    μ-loop
+    of-requires
+    loop-holds
+    tick-requires
+    of-requires-2
+    wrapping-add-u64-requires
+    print-tick-requires
+    add-i
+    loop-less
+    loop-again
+    returns)
