@@ -23,8 +23,8 @@ use Rattle.sheet.specs.declared.Refusal.the-variants.{OutOfRange}
 use Rattle.sheet.specs.Entries.{Shaped, nthPhase, nthPoint}
 use Rattle.sheet.specs.Zero.{zeroPhase, zeroPoint}
 use Rattle.sheet.proofs.Answers.{fine-both, holds}
-use Rattle.rows.specs.Table.{Range, none, kinds, rows, kindOf, rangesOf, widthOf, placeOf, inRange, inRanges, present, phaseKind, pointKind}
-use Rattle.numbers.specs.Flat.{vehicleNumber, numbersFrom, flatOf}
+use Rattle.rows.specs.Table.{Range, none, kinds, rows, kindOf, rangesOf, widthOf, placeOf, inRange, inRanges, present, phaseKind, pointKind, rowCount, mostPhases, mostPoints, placeFor, firstPhase, firstPoint}
+use Rattle.numbers.specs.Flat.{vehicleNumber, numbersFrom, flatOf, phasePlace, pointPlace}
 use Rattle.accept.specs.Lines.{ruleFault, rowFault, hereFault, lineAfter, faultFrom, linesFault}
 use Rattle.accept.specs.Whole.{wholeFault, acceptOf}
 use Rattle.accept.specs.Ranges.{Between, SoundPhase, SoundPoint, Sound, SoundIsAccepted, AcceptedWhenSound}
@@ -99,17 +99,24 @@ block v (suc m) n k row e here rest =
 entry : {A : Type 0} (P : A → Type 0) (xs : List A) (d : A) (n : ℕ) → n ≤ length xs → All P (take n xs) → (i : ℕ) → i < n → P (getD xs i d)
 entry P xs d n fits a i h = rw (getD-take n xs i d h) at (all-in P (take n xs) d a i (rw (length-take-le n xs fits) h))
 
-phase-counted : (v : List ℕ) (i : ℕ) → i < 8 → present v (6 + i) ≡ true → i < getD v 5 0
+-- the first row after the phases, and how many stand between them and the points
+abbrev afterPhases : ℕ
+afterPhases = firstPhase + mostPhases
+
+abbrev between : ℕ
+between = firstPoint - afterPhases
+
+phase-counted : (v : List ℕ) (i : ℕ) → i < mostPhases → present v (firstPhase + i) ≡ true → i < getD v (placeFor "phases") 0
 unfolding present pick
 phase-counted v i h t =
-    let e : 6 + i - 6 ≡ i = omega arith in
-    ltb-true i (getD v 5 0) (rw (le-ltb (6 + i) 6 (omega arith), lt-ltb (6 + i) 14 (omega arith), e) at t)
+    let e : firstPhase + i - firstPhase ≡ i = omega arith in
+    ltb-true i (getD v (placeFor "phases") 0) (rw (le-ltb (firstPhase + i) firstPhase (omega arith), lt-ltb (firstPhase + i) afterPhases (omega arith), e) at t)
 
-point-counted : (v : List ℕ) (i : ℕ) → i < 16 → present v (29 + i) ≡ true → i < getD v 85 0
+point-counted : (v : List ℕ) (i : ℕ) → i < mostPoints → present v (firstPoint + i) ≡ true → i < getD v (placeFor "points") 0
 unfolding present pick
 point-counted v i h t =
-    let e : 29 + i - 29 ≡ i = omega arith in
-    ltb-true i (getD v 85 0) (rw (le-ltb (29 + i) 6 (omega arith), le-ltb (29 + i) 14 (omega arith), le-ltb (29 + i) 29 (omega arith), e) at t)
+    let e : firstPoint + i - firstPoint ≡ i = omega arith in
+    ltb-true i (getD v (placeFor "points") 0) (rw (le-ltb (firstPoint + i) firstPhase (omega arith), le-ltb (firstPoint + i) afterPhases (omega arith), le-ltb (firstPoint + i) firstPoint (omega arith), e) at t)
 
 module _ (s : Sheet) (shaped : Shaped s) (h : Sound s) where
   pub nth-phase : (i : ℕ) → i < s .«phase_count» → SoundPhase (nthPhase s i)
@@ -127,15 +134,15 @@ module _ (s : Sheet) (shaped : Shaped s) (h : Sound s) where
       let e : suc i - 1 ≡ i = omega arith in
       rw (ne-eqb (suc i) 0 (omega arith), e) (rw (add-one i) at (h .rising i (omega arith)))
 
-  phase-ranges : (i : ℕ) → i < 8 → i < s .«phase_count» → Within (flatOf s) (6 + 8 * i) 0 (getD kinds 6 none .ranges)
+  phase-ranges : (i : ℕ) → i < mostPhases → i < s .«phase_count» → Within (flatOf s) (phasePlace i) 0 (getD kinds phaseKind none .ranges)
   phase-ranges i b c =
       let p = subst SoundPhase (sym (phase-in s i b)) (nth-phase i c) in
-      let z : 6 + 8 * i + 0 ≡ 6 + 8 * i = omega arith in
+      let z : phasePlace i + 0 ≡ phasePlace i = omega arith in
       (rw z (p .number), (up-to (p .green), (up-to (p .other), (p .yellow, (up-to (p .red), (up-to (p .walk), (up-to (p .clearance), (up-to (p .mode), tt))))))))
 
-  phase-row : (i : ℕ) → i < 8 → FineAt (flatOf s) (6 + i)
+  phase-row : (i : ℕ) → i < mostPhases → FineAt (flatOf s) (firstPhase + i)
   phase-row i b =
-      fine-at (flatOf s) (6 + i) (6 + 8 * i) (getD kinds 6 none .ranges) (phase-place i b) (ranges-by (6 + i) 6 (phase-kind i b))
+      fine-at (flatOf s) (firstPhase + i) (phasePlace i) (getD kinds phaseKind none .ranges) (phase-place i b) (ranges-by (firstPhase + i) phaseKind (phase-kind i b))
       (λ e. phase-ranges i b (rw (phases-at s) at (phase-counted (flatOf s) i b e)))
       (λ e line.
       let c = rw (phases-at s) at (phase-counted (flatOf s) i b e) in
@@ -153,15 +160,15 @@ module _ (s : Sheet) (shaped : Shaped s) (h : Sound s) where
       (point-rises-holds (nthPoint s i) (nthPoint s (suc i))
       (record { feet = rw (add-one i) at (h .further i (omega arith)); tenths = rw (add-one i) at (h .slower i (omega arith)) }))
 
-  point-ranges : (i : ℕ) → i < 16 → i < s .«point_count» → Within (flatOf s) (86 + 2 * i) 0 (getD kinds 22 none .ranges)
+  point-ranges : (i : ℕ) → i < mostPoints → i < s .«point_count» → Within (flatOf s) (pointPlace i) 0 (getD kinds pointKind none .ranges)
   point-ranges i b c =
       let p = subst SoundPoint (sym (point-in s i b)) (nth-point i c) in
-      let z : 86 + 2 * i + 0 ≡ 86 + 2 * i = omega arith in
+      let z : pointPlace i + 0 ≡ pointPlace i = omega arith in
       (rw z (up-to (p .feet)), (up-to (p .tenths), tt))
 
-  point-row : (i : ℕ) → i < 16 → FineAt (flatOf s) (29 + i)
+  point-row : (i : ℕ) → i < mostPoints → FineAt (flatOf s) (firstPoint + i)
   point-row i b =
-      fine-at (flatOf s) (29 + i) (86 + 2 * i) (getD kinds 22 none .ranges) (point-place i b) (ranges-by (29 + i) 22 (point-kind i b))
+      fine-at (flatOf s) (firstPoint + i) (pointPlace i) (getD kinds pointKind none .ranges) (point-place i b) (ranges-by (firstPoint + i) pointKind (point-kind i b))
       (λ e. point-ranges i b (rw (points-at s) at (point-counted (flatOf s) i b e)))
       (λ e line. point-rule s i line b ∙ holds _ _ _ (sym (fits i (rw (points-at s) at (point-counted (flatOf s) i b e)))))
 
@@ -212,21 +219,21 @@ no-rule row t v line =
     (λ e. absurd (rw e at t))
     (λ e. split (eqb (kindOf row) pointKind) (λ d. absurd (rw (e, d) at t)) (λ d. rw (e, d) refl))
 
-head-unruled : (i : ℕ) → i < 6 → NoRule (0 + i)
+head-unruled : (i : ℕ) → i < firstPhase → NoRule (0 + i)
 unfolding unruled kindOf pick
-head-unruled i h = no-rule (0 + i) (at (λ (k : ℕ). unruled (0 + k)) 6 tt i h)
+head-unruled i h = no-rule (0 + i) (at (λ (k : ℕ). unruled (0 + k)) firstPhase tt i h)
 
-middle-unruled : (i : ℕ) → i < 15 → NoRule (14 + i)
+middle-unruled : (i : ℕ) → i < between → NoRule (afterPhases + i)
 unfolding unruled kindOf pick
-middle-unruled i h = no-rule (14 + i) (at (λ (k : ℕ). unruled (14 + k)) 15 tt i h)
+middle-unruled i h = no-rule (afterPhases + i) (at (λ (k : ℕ). unruled (afterPhases + k)) between tt i h)
 
 module _ (s : Sheet) (h : Sound s) where
-  head-ranges : Plain (flatOf s) 6 0
+  head-ranges : Plain (flatOf s) firstPhase 0
   unfolding flatOf placeOf widthOf rangesOf kindOf
   head-ranges =
       ((h .issue, tt), ((vehicle-range (s .vehicle), tt), ((h .grade, tt), ((up-to (h .l01), tt), ((h .l02, tt), ((h .«phase_count», tt), tt))))))
 
-  middle-ranges : Plain (flatOf s) 15 14
+  middle-ranges : Plain (flatOf s) between afterPhases
   unfolding flatOf numbersFrom placeOf widthOf rangesOf kindOf
   middle-ranges =
       ((h .«track_yellow», (up-to (h .«track_red»), tt)), ((up-to (h .l18), tt), ((h .l19, tt), ((h .l20, tt), ((up-to (h .l28), tt), ((h .l30, tt), ((up-to (h .l31), tt), ((up-to (h .l33), tt), ((h .l37, tt), ((up-to (h .l39), tt), ((up-to (h .l47), tt), ((h .l56, tt), ((h .l57, tt), ((up-to (h .l58), tt), ((h .«point_count», tt), tt)))))))))))))))
@@ -238,10 +245,13 @@ no-rows v row line = refl
 lines-fine : (s : Sheet) → Shaped s → Sound s → linesFault (flatOf s) ≡ Fine
 lines-fine s shaped h =
     let v = flatOf s in
-    let points : FineFrom v 16 29 = block v 16 0 16 29 refl (point-row s shaped h) (no-rows v 45) in
-    let middle : FineFrom v 31 14 = block v 15 16 31 14 refl (plain v 15 14 middle-unruled (middle-ranges s h)) points in
-    let phases : FineFrom v 39 6 = block v 8 31 39 6 refl (phase-row s shaped h) middle in
-    let head : FineFrom v 45 0 = block v 6 39 45 0 refl (plain v 6 0 head-unruled (head-ranges s h)) phases in
+    let points : FineFrom v mostPoints firstPoint = block v mostPoints 0 mostPoints firstPoint refl (point-row s shaped h) (no-rows v rowCount) in
+    let middle : FineFrom v (between + mostPoints) afterPhases =
+    block v between mostPoints (between + mostPoints) afterPhases refl (plain v between afterPhases middle-unruled (middle-ranges s h)) points in
+    let phases : FineFrom v (mostPhases + (between + mostPoints)) firstPhase =
+    block v mostPhases (between + mostPoints) (mostPhases + (between + mostPoints)) firstPhase refl (phase-row s shaped h) middle in
+    let head : FineFrom v rowCount 0 =
+    block v firstPhase (mostPhases + (between + mostPoints)) rowCount 0 refl (plain v firstPhase 0 head-unruled (head-ranges s h)) phases in
     head 1
 
 pub sound-is-accepted : SoundIsAccepted

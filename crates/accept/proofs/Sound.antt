@@ -191,8 +191,8 @@ module _ (s : Sheet) (e : linesFault (flatOf s) ≡ Fine) where
 
   point-rules : (i : ℕ) → i < 16 → i < s .«point_count» → fitting s i ≡ true
   point-rules i h c =
-      let f = row-fine (29 + i) (omega arith) (point-present (flatOf s) i h (rw (points-at s) c)) in
-      passes _ _ _ (rw (point-rule s i (f .line) h) at (row-rule (flatOf s) (29 + i) f))
+      let f = row-fine (firstPoint + i) (omega arith) (point-present (flatOf s) i h (rw (points-at s) c)) in
+      passes _ _ _ (rw (point-rule s i (f .line) h) at (row-rule (flatOf s) (firstPoint + i) f))
 
   starts : 0 < s .«point_count» → AtZero (nthPoint s 0)
   unfolding pick
