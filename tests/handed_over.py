@@ -1,7 +1,8 @@
 """Writes the units and sheets that are handed over as values (crates/handed_over/stdin) and what each gives (crates/handed_over/stdout).
 
-Each case has its replies, and the unit after the tick, written down here by hand from the paper. sequence_reference.py, and the sentence
-of refusal 20 below, have to agree with what is written; a case where they do not stops the script.
+Each case has its replies, and the unit after the tick, written down here by hand from the paper, in words. sequence_reference.py, and the
+sentence of refusal 20 below, have to agree with what is written; a case where they do not stops the script. What the program must print is
+then the numbers of the same unit.
 """
 import os
 import reference
@@ -16,7 +17,10 @@ KEYS = ['l18', 'l19', 'l20', 'l28', 'l30', 'l31', 'l33', 'l37', 'l39', 'l47', 'l
 PLACE = dict([('issue', 0), ('vehicle', 1), ('grade', 2), ('l01', 3), ('l02', 4), ('phases', 5), ('yellow', 70), ('red', 71), ('points', 85)]
              + [(k, 72 + i) for i, k in enumerate(KEYS)])
 OF_PHASE = ['number', 'green', 'other', 'yellow', 'red', 'walk', 'clearance', 'mode']
-STAGES = ['track-green', 'track-yellow', 'track-red', 'open', 'ending', 'clearance-green', 'clearance-yellow', 'clearance-red', 'dwell', 'start']
+STAGES = ['track-green', 'track-yellow', 'track-red', 'open', 'ending', 'clearance-green', 'clearance-yellow', 'clearance-red', 'dwell']
+# a stage's kind and place as numbers; 9 is no stage: a start
+KINDS = {'track-green': (0, 0), 'track-yellow': (1, 0), 'track-red': (2, 0), 'open': (3, 0), 'ending': (4, 0), 'clearance-green': (5, 0),
+         'clearance-yellow': (1, 1), 'clearance-red': (2, 1), 'dwell': (6, 0), 'start': (9, 0)}
 LIGHTS = ['green', 'yellow', 'red']
 WALKERS = ['walk', 'clearance']
 
@@ -66,6 +70,7 @@ class Unit:
     def __init__(self, numbers, stage, phase=0, next=0, light='green', spent=0, walker='walk', steps=0, count=0):
         self.numbers, self.stage, self.phase, self.next, self.light, self.spent = numbers, stage, phase, next, light, spent
         self.walker, self.steps, self.count = walker, steps, count
+        self.follows = (1, next) if next != 0 else (0, 0)
 
     def fits(self):
         """20: 'a tick or load whose unit has a refused sheet, a phase not listed, a next phase neither listed nor 0, a time above its length
@@ -97,6 +102,15 @@ class Unit:
             u.light, u.walker, u.steps = self.light, self.walker, self.steps
         return u
 
+    def state(self):
+        """the numbers of the stage: its kind and place, what follows (0 the track, 1 a phase, 2 clearance green, 3 dwell) and the phase next, the
+        phase shown, its light, the ticks of that or of the track's interval, its walker, the ticks of that; 0 for what the stage does not have"""
+        follows = (3, 0) if self.stage in ('clearance-yellow', 'clearance-red') else self.follows
+        return KINDS[self.stage] + follows + (self.phase, LIGHTS.index(self.light), self.spent, WALKERS.index(self.walker), self.steps)
+
+    def numbers_shown(self):
+        return '%s count %d' % (','.join(map(str, self.state())), self.count)
+
     def words(self):
         named = {'track-yellow': '%d next %d' % (self.spent, self.next), 'track-red': '%d next %d' % (self.spent, self.next),
                  'clearance-green': '%d' % self.spent, 'clearance-yellow': '%d' % self.spent, 'clearance-red': '%d' % self.spent}
@@ -108,16 +122,25 @@ class Unit:
         return '%s count %d' % (text, self.count)
 
 
-def words_of(u):
-    """a unit after a tick; in the transfer what was next is not looked at any more"""
-    shown = Unit(None, u.stage, 0, u.next, 'green', u.spent, 'walk', 0, u.count)
+def after_tick(u):
+    """a unit after a tick, in words and as numbers; in the transfer what was next is not looked at any more: clearance green follows"""
+    stage = u.stage if u.stage != 'phase' else 'ending' if u.asked else 'open'
+    next = u.next if stage in ('track-yellow', 'track-red', 'ending') else 0
+    spent = u.spent if stage not in ('track-green', 'dwell') else 0
+    shown = Unit(None, stage, 0, next, 'green', spent, 'walk', 0, u.count)
     if u.stage == 'phase':
-        shown = Unit(None, 'ending' if u.asked else 'open', u.p['number'], u.next, u.light, u.spent, u.walker, u.steps, u.count)
-    return shown.words().replace('next %d' % u.next, 'next -') if u.begun() else shown.words()
+        shown = Unit(None, stage, u.p['number'], next, u.light, spent, u.walker, u.steps, u.count)
+    if not u.begun() or stage not in ('track-yellow', 'track-red', 'ending'):
+        return shown.words(), shown.numbers_shown()
+    shown.follows = (2, 0)
+    return shown.words().replace('next %d' % next, 'next -'), shown.numbers_shown()
 
 
 def differences(numbers):
     return ''.join(' [%d]=%d' % (i, n) for i, n in enumerate(numbers) if n != SITE_NUMBERS[i])
+
+
+FRESH = Unit(None, 'track-green').numbers_shown()
 
 
 # ---- a case: the unit, the command and the call of its tick, and the sheet offered to it
@@ -129,7 +152,7 @@ class Case:
 
     def row(self):
         u = self.unit
-        numbers = list(self.held) + [STAGES.index(u.stage), u.phase, u.next, LIGHTS.index(u.light), u.spent, WALKERS.index(u.walker), u.steps, u.count]
+        numbers = list(self.held) + list(u.state()) + [u.count]
         numbers += [0 if self.command is None else self.command + 1, self.call] + list(self.offered) + [self.issue]
         return '%s:%s\n' % (self.name, ','.join(map(str, numbers)))
 
@@ -140,14 +163,14 @@ class Case:
     def start(self):
         number = fault(self.sheet())
         assert self.load in (None, number), (self.name, number)
-        return '%s: start %d,%d track-green count 0%s\n' % ((self.name,) + number + (differences(self.sheet() if number[0] == 0 else ZERO_NUMBERS),))
+        return '%s: start %d,%d %s%s\n' % ((self.name,) + number + (FRESH, differences(self.sheet() if number[0] == 0 else ZERO_NUMBERS),))
 
     def ticked(self):
         if not self.unit.fits():
-            return '20,0 ' + self.unit.words()
+            return '20,0 ' + self.unit.words(), '20,0 ' + self.unit.numbers_shown()
         u = self.unit.running()
         number = u.tick(self.command, self.call == 1)
-        return '%d,0 %s' % (number, words_of(u))
+        return tuple('%d,0 %s' % (number, shown) for shown in after_tick(u))
 
     def loaded(self):
         if not self.unit.fits():
@@ -158,13 +181,14 @@ class Case:
     def line(self):
         if self.stage == 'start':
             return self.start()
-        tick, load, held = self.ticked(), self.loaded(), differences(self.unit.numbers)
+        (words, tick), load, held = self.ticked(), self.loaded(), differences(self.unit.numbers)
         if self.after is not None:
             want = self.after if self.after != '20' else '20,0 ' + self.unit.words()
-            assert tick == want, (self.name, tick, want)
+            assert words == want, (self.name, words, want)
             assert load == self.load, (self.name, load)
-        after = 'track-green count 0' + differences(self.sheet()) if load == (0, 0) else self.unit.words() + held
-        return '%s: %s%s | tick %s%s | load %d,%d %s\n' % ((self.name, self.unit.words(), held, tick, held) + load + (after,))
+        given = self.unit.numbers_shown() + held
+        after = FRESH + differences(self.sheet()) if load == (0, 0) else given
+        return '%s: %s | tick %s%s | load %d,%d %s\n' % ((self.name, given, tick, held) + load + (after,))
 
 
 NOT_NOW = (21, 0)
@@ -311,11 +335,16 @@ STARTS = [Case('start', 'start', load=(0, 0), issue=12), Case('start, issue 0', 
 STARTS += [Case('start, ' + name, 'start', load=(number, line), offered=(place, value)) for name, place, value, number, line in FAULTS]
 
 
+def text(cases):
+    """what the program reads: the numbers of the site's sheet, then a line for each case"""
+    return ','.join(map(str, SITE_NUMBERS)) + '\n' + ''.join(c.row() for c in cases)
+
+
 def main():
     cases = CASES + LOADS + STARTS
     folder = os.path.join(here, '..', 'crates', 'handed_over')
     with open(os.path.join(folder, 'stdin'), 'w') as f:
-        f.write(''.join(c.row() for c in cases))
+        f.write(text(cases))
     with open(os.path.join(folder, 'stdout'), 'w') as f:
         f.write(''.join(c.line() for c in cases))
     print(len(CASES), 'units,', len(LOADS), 'loads,', len(STARTS), 'starts')

@@ -1,32 +1,16 @@
 -- The contract of each public function of the crate fixes the reply and asks nothing: it is an equation with a definition. Assumes nothing.
 use mathlib.Core.Path.{sym, _∙_, refl}
 use Rattle.units.specs.Fixed.{Fixes, AsksNothing}
-use Rattle.accept.proofs.row_fault.Kinds as row-fault-kinds
-use Rattle.accept.proofs.row_fault.Reads as row-fault-reads
 use Rattle.accept.proofs.lines_fault.Kinds as lines-fault-kinds
 use Rattle.accept.proofs.lines_fault.Reads as lines-fault-reads
-use Rattle.accept.proofs.whole_fault.Kinds as whole-fault-kinds
-use Rattle.accept.proofs.whole_fault.Reads as whole-fault-reads
 use Rattle.accept.proofs.accept.Kinds as accept-kinds
 use Rattle.accept.proofs.accept.Reads as accept-reads
-
-pub row-fault-fixed : Fixes 1 row-fault-kinds.ps row-fault-kinds.r row-fault-reads.Learnt
-row-fault-fixed κs a z z′ w w′ p q = (p ∙ sym q, refl)
-
-pub row-fault-open : AsksNothing 1 row-fault-kinds.ps row-fault-reads.Asked
-row-fault-open κs a = tt
 
 pub lines-fault-fixed : Fixes 1 lines-fault-kinds.ps lines-fault-kinds.r lines-fault-reads.Learnt
 lines-fault-fixed κs a z z′ w w′ p q = (p ∙ sym q, refl)
 
 pub lines-fault-open : AsksNothing 1 lines-fault-kinds.ps lines-fault-reads.Asked
 lines-fault-open κs a = tt
-
-pub whole-fault-fixed : Fixes 0 whole-fault-kinds.ps whole-fault-kinds.r whole-fault-reads.Learnt
-whole-fault-fixed κs a z z′ w w′ p q = (p ∙ sym q, refl)
-
-pub whole-fault-open : AsksNothing 0 whole-fault-kinds.ps whole-fault-reads.Asked
-whole-fault-open κs a = tt
 
 pub accept-fixed : Fixes 0 accept-kinds.ps accept-kinds.r accept-reads.Learnt
 accept-fixed κs a z z′ w w′ p q = (p ∙ sym q, refl)

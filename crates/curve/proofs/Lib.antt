@@ -1,4 +1,3 @@
 pub mod Points
 pub mod Times
 pub mod Cases
-pub mod Fixed

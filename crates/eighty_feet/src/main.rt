@@ -6,7 +6,7 @@ use sheet::Sheet;
 use sheet::Vehicle;
 
 fn phases() -> [Phase; 8] {
-    let mut phases = [sheet::zero_phase(); 8];
+    let mut phases = [zeros::zero_phase(); 8];
     phases[0] = Phase {
         number: 2,
         green: 50,
@@ -21,7 +21,7 @@ fn phases() -> [Phase; 8] {
 }
 
 fn points() -> [Point; 16] {
-    let mut points = [sheet::zero_point(); 16];
+    let mut points = [zeros::zero_point(); 16];
     points[1] = Point {
         feet: 80,
         tenths: 122,
@@ -59,8 +59,8 @@ fn example(grade: i16) -> Sheet {
 }
 
 fn line_24(grade: i16) -> u64 {
-    let worked = lines::worksheet(example(grade));
-    rules::ticks(worked.lines.l24)
+    let worked = form::worksheet(example(grade));
+    ruled::ticks(worked.lines.l24)
 }
 
 fn main() {

@@ -3,4 +3,3 @@ pub mod Places
 pub mod Bounds
 pub mod Ones
 pub mod Exact
-pub mod Fixed

@@ -1,96 +1,64 @@
-// Units and sheets handed over as values. Each line of standard input is a case, `NAME:` and the numbers of `cases`; on standard output the
-// unit as it was handed over, and the reply and the whole unit after a tick, and after a load.
-ghost use Prim.Native.Nat.{_≤_};
+// Units and sheets handed over as values. The first line of standard input is the site's sheet as its numbers, each further line a case, `NAME:` and
+// the numbers of `cases`; on standard output the unit as it was handed over, and the reply and the whole unit after a tick, and after a load.
 use libc::STDIN_FILENO;
 
 mod cases;
 mod shown;
 
-// A line as far as it is read: whether it is still in the name, the numbers so far, and the number that is being read.
-struct Row {
-    naming: bool,
-    numbers: [u32; 15],
-    count: usize,
-    value: u32,
-}
-
-fn begun() -> Row {
-    Row {
-        naming: true,
-        numbers: [0; 15],
-        count: 0,
-        value: 0,
-    }
-}
-
-fn in_name(row: Row, byte: u8) -> Row {
-    let one = [byte];
-    shown::write(&one);
-    let numbers = row.numbers;
-    Row {
-        naming: byte != b':',
-        numbers: numbers,
-        count: 0,
-        value: 0,
-    }
-}
-
-fn digit(byte: u8) -> u32 {
-    std::num::wrapping_sub_u32(byte as u32, 48)
-}
-
-fn with_digit(row: Row, byte: u8) -> Row {
-    let numbers = row.numbers;
-    let mut value: u32 = 0;
-    if row.value < 100000000 {
-        value = std::num::wrapping_add_u32(row.value * 10, digit(byte));
-    }
-    Row {
-        naming: false,
-        numbers: numbers,
-        count: row.count,
-        value: value,
-    }
-}
-
-fn ended(row: Row) -> Row {
-    let mut numbers = row.numbers;
-    let at = row.count;
-    let mut count: usize = 15;
-    if at < 15 {
-        numbers[at] = row.value;
-        count = at + 1;
-    }
-    Row {
-        naming: false,
-        numbers: numbers,
-        count: count,
-        value: 0,
-    }
-}
-
-fn taken(row: Row, byte: u8) -> Row {
-    if row.naming {
-        return in_name(row, byte);
-    }
+// A byte more of the number of that count: a comma begins the next one.
+fn taken(numbers: &mut [u32; rows::NUMBERS], count: usize, byte: u8) -> usize {
     if byte == b',' {
-        return ended(row);
+        return std::num::wrapping_add_usize(count, 1);
     }
-    if byte == b'\n' {
-        let last = ended(row);
-        let numbers = last.numbers;
-        cases::case(&numbers);
-        return begun();
+    if count < rows::NUMBERS {
+        let tens = numbers[count];
+        if tens < 100000000 {
+            let digit = std::num::wrapping_sub_u32(byte as u32, 48);
+            numbers[count] = std::num::wrapping_add_u32(tens * 10, digit);
+        }
     }
-    with_digit(row, byte)
+    count
 }
 
+// The numbers of a line, from the first of them on. The grade among the numbers of a sheet has seven digits, one more than a number of a text.
+fn numbers(s: &[u8], from: usize) -> [u32; rows::NUMBERS] {
+    let mut numbers = [0u32; rows::NUMBERS];
+    let mut count: usize = 0;
+    let mut i = from;
+    while i < s.len() {
+        if s[i] == b'\n' {
+            return numbers;
+        }
+        count = taken(&mut numbers, count, s[i]);
+        i += 1;
+    }
+    numbers
+}
+
+// The place after the next byte of that kind.
+fn after(s: &[u8], at: usize, byte: u8) -> usize {
+    std::num::wrapping_add_usize(scan::find(s, at, byte), 1)
+}
+
+// The case at a place, its name first.
+fn line(site: &[u32; rows::NUMBERS], s: &[u8], at: usize) {
+    let first = after(s, at, b':');
+    if at <= first {
+        if first <= s.len() {
+            shown::write(&s[at..first]);
+            cases::case(site, &numbers(s, first));
+        }
+    }
+}
+
+// No more lines than bytes; past the last one there is nothing to show.
 fn all(s: &[u8]) {
-    let mut row = begun();
+    let site = numbers(s, 0);
+    let mut at = after(s, 0, b'\n');
     let mut i: usize = 0;
     while i < s.len() {
-        let next = taken(row, s[i]);
-        row = next;
+        line(&site, s, at);
+        at = after(s, at, b'\n');
         i += 1;
     }
 }

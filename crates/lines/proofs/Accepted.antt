@@ -25,9 +25,9 @@ use Rattle.transfer.specs.declared.Users.the-variants.{Vehicles, Pedestrians}
 use Rattle.transfer.specs.Promises.{nth, Shown}
 use Rattle.transfer.specs.Transfer.{pedestrianTime, timeOf, worstOf}
 use Rattle.transfer.proofs.Promised.{largest, listed, shown-above, no-time}
-use Rattle.accept.specs.Ranges.{SoundPhase, Sound}
-use Rattle.accept.proofs.Sound.{sound}
-use Rattle.accept.proofs.Accepted.{nth-phase}
+use Rattle.faults.specs.Ranges.{SoundPhase, Sound}
+use Rattle.faults.proofs.Sound.{sound}
+use Rattle.faults.proofs.Accepted.{nth-phase}
 use Rattle.curve.specs.Promises.{Rising, Next}
 use Rattle.curve.specs.Promises.Next.{here, later}
 use Rattle.curve.proofs.Times.{level-line}

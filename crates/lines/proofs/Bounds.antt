@@ -15,9 +15,9 @@ use Rattle.sheet.specs.declared.Point.{Point}
 use Rattle.sheet.specs.declared.Answer.the-variants.{Fine}
 use Rattle.transfer.specs.Promises.{Bounded}
 use Rattle.transfer.proofs.Promised.{at-most}
-use Rattle.accept.specs.Whole.{acceptOf}
-use Rattle.accept.specs.Ranges.{SoundPhase, SoundPoint, Sound}
-use Rattle.accept.proofs.Sound.{sound}
+use Rattle.faults.specs.Whole.{acceptOf}
+use Rattle.faults.specs.Ranges.{SoundPhase, SoundPoint, Sound}
+use Rattle.faults.proofs.Sound.{sound}
 use Rattle.curve.specs.Promises.{TimesWithin}
 use Rattle.curve.proofs.Times.{acceleration-le}
 use Rattle.lines.specs.Lines.{l03, l16, l17, l20, l21, l22, l23, l24, l25, l29, l32, l34, l36, l38, l40, l41, l43, l44, l45, l46, l48, l49, l50, l52, l53, l54, l55, l57, l58, l59}

@@ -5,8 +5,8 @@ use Rattle.sheet.specs.Refusals.{orElse, unless}
 use Rattle.transfer.specs.Transfer.{pedestrianTime, timeOf, worseOf, worstFrom}
 use Rattle.rows.specs.Table.{kinds, rows, kindOf, rangesOf, widthOf, placeOf, inRange, inRanges, present}
 use Rattle.numbers.specs.Flat.{gradeNumber, numbersFrom, flatOf}
-use Rattle.accept.specs.Lines.{quietInModeZero, clearsYellowAndRed, phaseFault, startsAtZero, pointRises, beforePhase, pointFits, ruleFault, rowFault, hereFault, lineAfter, faultFrom}
-use Rattle.accept.specs.Whole.{wholeFault, acceptOf}
+use Rattle.faults.specs.Lines.{quietInModeZero, clearsYellowAndRed, phaseFault, startsAtZero, pointRises, beforePhase, pointFits, ruleFault, rowFault, hereFault, lineAfter, faultFrom}
+use Rattle.faults.specs.Whole.{wholeFault, acceptOf}
 use Rattle.table.specs.Table.{table, entryOf}
 use Rattle.factor.specs.Factor.{climb, placeOn, rowOf, columnOf, mixOf, lineOf, tableOf, factorOf}
 use Rattle.curve.specs.Curve.{betweenOf, levelFrom, levelOf, gradedOf, accelerationOf}

@@ -2,4 +2,3 @@ pub mod Bounds
 pub mod Promised
 pub mod Accepted
 pub mod Cases
-pub mod Fixed

@@ -3,7 +3,7 @@ use mathlib.Core.Path.{_≡_, refl}
 use native.Mathlib.Omega.{arith}
 use Rattle.units.specs.Numbers.{pick}
 use Rattle.sheet.specs.declared.Sheet.{Sheet}
-use Rattle.accept.proofs.Sound.{sound}
+use Rattle.faults.proofs.Sound.{sound}
 use Rattle.rules.proofs.Promised as rules
 use Rattle.lines.specs.Lines.{pedestrianPhase, l03, l13, l14, l21, l22, l25, l29, l33, l35, l36, l37, l38, l41, l43, l44, l50, l51, l52, l55, l57, l58, l59, l61}
 use Rattle.lines.specs.Worksheet.{zeroLines, worksheetOf}

@@ -11,7 +11,7 @@ use Rattle.sheet.specs.Entries.{Shaped, listedPoints, nthPhase, nthPoint}
 use Rattle.transfer.specs.declared.Users.{Users}
 use Rattle.transfer.specs.declared.Users.the-variants.{Vehicles, Pedestrians}
 use Rattle.transfer.specs.Transfer.{timeOf}
-use Rattle.accept.specs.Whole.{acceptOf}
+use Rattle.faults.specs.Whole.{acceptOf}
 use Rattle.curve.specs.Curve.{levelOf}
 use Rattle.curve.specs.Promises.{OnTheLine}
 use Rattle.lines.specs.Lines.{l04, l05, l06, l07, l08, l09, l10, l11, l12, l13, l14, l15, l20, l23, l48}

@@ -13,7 +13,7 @@ use Rattle.sheet.specs.declared.Vehicle.{Vehicle}
 use Rattle.sheet.specs.declared.Vehicle.the-variants.{Su, Bus, Wb50}
 use Rattle.sheet.specs.Refusals.{isFine, answerNumber, answerLine}
 use Rattle.sheet.specs.Zero.{zeroPhase, zeroPoint}
-use Rattle.accept.specs.Whole.{acceptOf}
+use Rattle.faults.specs.Whole.{acceptOf}
 use Rattle.factor.specs.Factor.{factorOf}
 use Rattle.curve.specs.Curve.{gradedOf}
 use Rattle.lines.specs.Worksheet.{worksheetOf, inOrder}

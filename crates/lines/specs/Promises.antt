@@ -6,7 +6,7 @@ use Rattle.units.specs.Numbers.{tenths}
 use Rattle.sheet.specs.declared.Sheet.{Sheet}
 use Rattle.sheet.specs.declared.Refusal.{Refusal}
 use Rattle.sheet.specs.declared.Answer.the-variants.{Fine, Refused}
-use Rattle.accept.specs.Whole.{acceptOf}
+use Rattle.faults.specs.Whole.{acceptOf}
 use Rattle.lines.specs.Lines.{l03, pedestrianPhase, l13, l14, l17, l21, l22, l25, l28, l29, l33, l34, l35, l36, l37, l38, l40, l44, l50, l51, l53, l54, l57, l58, l59, l60, l61}
 use Rattle.lines.specs.Worksheet.{zeroLines, worksheetOf}
 use Rattle.lines.specs.Cases.{allRight, paperCases}

@@ -1,13 +1,13 @@
 -- The lines in the sections in which they are worked out, and the sections put together.
 use Rattle.sheet.specs.declared.Sheet.{Sheet}
-use Rattle.lines.specs.declared.sections.Transfer.{Transfer}
-use Rattle.lines.specs.declared.sections.Vehicles.{Vehicles}
-use Rattle.lines.specs.declared.sections.Pedestrians.{Pedestrians}
-use Rattle.lines.specs.declared.sections.Clearance.{Clearance}
-use Rattle.lines.specs.declared.sections.Warning.{Warning}
-use Rattle.lines.specs.declared.sections.Gates.{Gates}
-use Rattle.lines.specs.declared.sections.Green.{Green}
-use Rattle.lines.specs.declared.sections.Street.{Street}
+use Rattle.lines.specs.declared.Transfer.{Transfer}
+use Rattle.lines.specs.declared.Vehicles.{Vehicles}
+use Rattle.lines.specs.declared.Pedestrians.{Pedestrians}
+use Rattle.lines.specs.declared.Clearance.{Clearance}
+use Rattle.lines.specs.declared.Warning.{Warning}
+use Rattle.lines.specs.declared.Gates.{Gates}
+use Rattle.lines.specs.declared.Green.{Green}
+use Rattle.lines.specs.declared.Street.{Street}
 use Rattle.lines.specs.declared.Lines.{Lines}
 use Rattle.lines.specs.Lines.{l01, l02, l03, l04, l05, l06, l07, l08, l09, l10, l11, l12, l13, l14, l15, l16, l17, l18, l19, l20, l21, l22, l23, l24, l25, l28, l29, l30, l31, l32, l33, l34, l35, l37, l38, l39, l40, l42, l43, l44, l47, l48, l49, l50, l51, l54, l55, l56, l57, l58, l59, l60, l61}
 

@@ -3,4 +3,3 @@ pub mod Numbers
 pub mod Entries
 pub mod Stored
 pub mod Again
-pub mod Fixed

@@ -1,4 +1,3 @@
 pub mod Fit
-pub mod Fixed
 pub mod Left
 pub mod Rest

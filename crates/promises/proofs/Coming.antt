@@ -42,7 +42,7 @@ use Rattle.flow.specs.Promises.{now, Rests, phaseShown}
 use Rattle.flow.proofs.Rest.{kept, nothing-due}
 use Rattle.flow.proofs.Dwell.{uncounted, on-time}
 use Rattle.flow.proofs.Transfer as flow
-use Rattle.unit.specs.Unit.{accepted}
+use Rattle.measured.specs.Measured.{accepted}
 use Rattle.promises.proofs.Sheets.{listed-fair, listed-time}
 
 pub up-one : (k n : ℕ) → k < n → oneMore k n ≡ k + 1

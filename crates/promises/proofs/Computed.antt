@@ -11,8 +11,8 @@ use Rattle.sheet.specs.Refusals.{orElse, unless}
 use Rattle.transfer.specs.Transfer.{pedestrianTime, timeOf, worseOf, worstFrom}
 use Rattle.rows.specs.Table.{kindOf, rangesOf, widthOf, placeOf, inRange, inRanges, present}
 use Rattle.numbers.specs.Flat.{gradeNumber, numbersFrom, flatOf}
-use Rattle.accept.specs.Lines.{quietInModeZero, clearsYellowAndRed, phaseFault, startsAtZero, pointRises, beforePhase, pointFits, ruleFault, rowFault, hereFault, lineAfter, faultFrom}
-use Rattle.accept.specs.Whole.{wholeFault, acceptOf}
+use Rattle.faults.specs.Lines.{quietInModeZero, clearsYellowAndRed, phaseFault, startsAtZero, pointRises, beforePhase, pointFits, ruleFault, rowFault, hereFault, lineAfter, faultFrom}
+use Rattle.faults.specs.Whole.{wholeFault, acceptOf}
 use Rattle.table.specs.Table.{table, entryOf}
 use Rattle.factor.specs.Factor.{climb, placeOn, rowOf, columnOf, mixOf, lineOf, tableOf, factorOf}
 use Rattle.curve.specs.Curve.{betweenOf, levelFrom, levelOf, gradedOf, accelerationOf}
@@ -39,7 +39,7 @@ use Rattle.flow.specs.Settling.{enter, settleRed, settleYellow, settleGreen, se
 use Rattle.flow.specs.Promises.{now}
 use Rattle.flow.specs.Tick.{heard, ticked}
 use Rattle.unit.specs.Runs.{Event, tick}
-use Rattle.unit.specs.Unit.{lengthsOf, accepted}
+use Rattle.measured.specs.Measured.{lengthsOf, accepted}
 use Rattle.promises.specs.Demand.{upTo}
 use Rattle.promises.specs.Instances.{calls, towardsFour, varied, tight, advanced, stepped, ownLengths, clearsBy, phasesOf, asYellowStarts}
 

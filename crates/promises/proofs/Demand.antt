@@ -16,7 +16,8 @@ use Rattle.stage.specs.Shown.{inNormal}
 use Rattle.flow.proofs.Counts.{off-clears}
 use Rattle.unit.specs.declared.Reply.{Reply}
 use Rattle.unit.specs.declared.Unit.{Unit}
-use Rattle.unit.specs.Unit.{lengthsOf, nowOf, fits, tickOf, started, startOf, loadOf}
+use Rattle.measured.specs.Measured.{lengthsOf}
+use Rattle.unit.specs.Unit.{nowOf, fits, tickOf, started, startOf, loadOf}
 use Rattle.unit.specs.Runs.{Event, tick, load, answerTo, run}
 use Rattle.unit.proofs.Fit.{fits-sheet, onward, tick-is}
 use Rattle.unit.proofs.Kept.{fits-kept, start-fits}

@@ -22,7 +22,8 @@ use Rattle.flow.proofs.Fit.{after-times-fits, after-command-fits}
 use Rattle.flow.proofs.Rest.{nothing-due}
 use Rattle.flow.proofs.Transfer.{begins-now}
 use Rattle.unit.specs.declared.Unit.{Unit}
-use Rattle.unit.specs.Unit.{lengthsOf, nowOf, holding, fits, tickOf, loadOf}
+use Rattle.measured.specs.Measured.{lengthsOf}
+use Rattle.unit.specs.Unit.{nowOf, holding, fits, tickOf, loadOf}
 use Rattle.unit.specs.Runs.{Event, tick, load}
 use Rattle.unit.proofs.Fit.{fits-sheet, fits-told, onward, tick-is, onward-fits}
 use Rattle.promises.specs.Demand.{CallOn}

@@ -31,7 +31,8 @@ use Rattle.flow.specs.Promises.{now}
 use Rattle.flow.specs.Tick.{ticked}
 use Rattle.unit.specs.declared.Unit.{Unit}
 use Rattle.unit.specs.Runs.{Event, tick, load, answerTo, run}
-use Rattle.unit.specs.Unit.{lengthsOf, accepted, nowOf, holding, fits, fresh, started, startOf}
+use Rattle.measured.specs.Measured.{lengthsOf, accepted}
+use Rattle.unit.specs.Unit.{nowOf, holding, fits, fresh, started, startOf}
 use Rattle.unit.proofs.Fit.{fresh-fits, onward, tick-is, onward-fits}
 use Rattle.unit.proofs.Kept.{fits-kept}
 use Rattle.promises.specs.Demand.{line, line17, line51, line53, seenOn, MayBegin, CallOn, ticksIn, upTo, atEnd, Demanded}

@@ -33,7 +33,8 @@ use Rattle.flow.proofs.Counts.{on-counts}
 use Rattle.flow.proofs.Rest.{nothing-due}
 use Rattle.flow.proofs.Transfer.{Firm, transfer-begins}
 use Rattle.unit.specs.declared.Unit.{Unit}
-use Rattle.unit.specs.Unit.{lengthsOf, nowOf, fits, startOf, loadOf}
+use Rattle.measured.specs.Measured.{lengthsOf}
+use Rattle.unit.specs.Unit.{nowOf, fits, startOf, loadOf}
 use Rattle.unit.specs.Runs.{Event, tick, load, answerTo, run}
 use Rattle.unit.proofs.Fit.{onward, tick-is, onward-fits}
 use Rattle.unit.proofs.Kept.{fits-kept, start-fits}

@@ -15,8 +15,8 @@ use Rattle.sheet.specs.declared.Sheet.{Sheet}
 use Rattle.sheet.specs.Refusals.{numberOf, answerNumber, orElse, unless}
 use Rattle.numbers.specs.Flat.{flatOf, phaseAt}
 use Rattle.rows.specs.Table.{kindOf, present, phaseKind, pointKind, firstPhase, rowCount}
-use Rattle.accept.specs.Lines.{phaseFault, beforePhase, ruleFault, rowFault, hereFault, lineAfter, faultFrom}
-use Rattle.accept.specs.Whole.{wholeFault, acceptOf}
+use Rattle.faults.specs.Lines.{phaseFault, beforePhase, ruleFault, rowFault, hereFault, lineAfter, faultFrom}
+use Rattle.faults.specs.Whole.{wholeFault, acceptOf}
 use Rattle.lines.specs.Worksheet.{worksheetOf}
 use Rattle.unit.specs.Unit.{startOf}
 use Rattle.unit.specs.Runs.{run}

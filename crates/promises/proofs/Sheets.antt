@@ -17,9 +17,9 @@ use Rattle.transfer.specs.declared.Users.{Users}
 use Rattle.transfer.specs.declared.Users.the-variants.{Vehicles, Pedestrians}
 use Rattle.transfer.specs.Transfer.{timeOf}
 use Rattle.transfer.proofs.Promised.{sixteen}
-use Rattle.accept.specs.Ranges.{SoundPhase, Sound}
-use Rattle.accept.specs.Whole.{acceptOf}
-use Rattle.accept.proofs.Sound.{sound}
+use Rattle.faults.specs.Ranges.{SoundPhase, Sound}
+use Rattle.faults.specs.Whole.{acceptOf}
+use Rattle.faults.proofs.Sound.{sound}
 use Rattle.lines.specs.Lines.{l03, l16, l17, linesOf}
 use Rattle.lines.specs.Worksheet.{worksheetOf}
 use Rattle.lines.proofs.Promised.{warning-enough, gates-before-end, advance-enough, lasting}
@@ -28,7 +28,7 @@ use Rattle.phase.proofs.Left.{over-in-time}
 use Rattle.stage.specs.declared.Found.{Found}
 use Rattle.stage.specs.declared.Found.the-variants.{At}
 use Rattle.stage.specs.Listed.{listing, findIn, isAt, orZero, listed, phaseOf}
-use Rattle.unit.specs.Unit.{lengthsOf, accepted}
+use Rattle.measured.specs.Measured.{lengthsOf, accepted}
 use Rattle.promises.specs.Promises.{SixteenEnough}
 
 -- what holds of every listed phase holds of the one that is found

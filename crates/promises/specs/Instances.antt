@@ -10,7 +10,7 @@ use Rattle.sheet.specs.declared.Phase.{Phase}
 use Rattle.sheet.specs.declared.Refusal.the-variants.{ClearanceTooShort, TrackLongerThanTransfer}
 use Rattle.sheet.specs.declared.Sheet.{Sheet}
 use Rattle.sheet.specs.Zero.{zeroPhase}
-use Rattle.accept.specs.Whole.{acceptOf}
+use Rattle.faults.specs.Whole.{acceptOf}
 use Rattle.rules.specs.Rules.{ticks}
 use Rattle.lines.specs.Cases.{paperSheet}
 use Rattle.lines.specs.Lines.{l03, l17, l51}

@@ -16,7 +16,8 @@ use Rattle.phase.specs.Times.{lightFits, walkerFits}
 use Rattle.phase.specs.Ending.{settlePhase}
 use Rattle.phase.specs.Promises as phases
 use Rattle.stage.specs.Listed.{listed, phaseOf}
-use Rattle.unit.specs.Unit.{accepted, startOf, loadOf}
+use Rattle.measured.specs.Measured.{accepted}
+use Rattle.unit.specs.Unit.{startOf, loadOf}
 use Rattle.unit.specs.Runs.{Event, answerTo, run}
 use Rattle.promises.specs.Demand.{MayBegin, ForEveryCall}
 

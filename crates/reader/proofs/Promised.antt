@@ -1,26 +1,17 @@
 -- The promises of reading alone. Assumes nothing.
 use mathlib.Core.Path.{_≡_, refl, sym}
 use mathlib.Core.Bool.{false}
-use mathlib.Core.List.{[], _∷_}
-use lib.Dec.{ltb}
 use Rattle.units.specs.Numbers.{pick}
-use Rattle.units.proofs.Steps.{split, never}
+use Rattle.units.proofs.Steps.{never}
 use Rattle.sheet.specs.declared.Sheet.{Sheet}
 use Rattle.sheet.specs.declared.Answer.{Answer}
 use Rattle.sheet.specs.declared.Answer.the-variants.{Fine, Refused}
 use Rattle.sheet.specs.Refusals.{isFine, orElse}
 use Rattle.sheet.specs.Zero.{zeroSheet}
 use Rattle.numbers.specs.Flat.{sheetOf}
-use Rattle.accept.specs.Whole.{wholeFault}
-use Rattle.reader.specs.Figures.{digitOf, more, number, after}
-use Rattle.reader.specs.Line.{signedAt}
+use Rattle.faults.specs.Whole.{wholeFault}
 use Rattle.reader.specs.Read.{linesOf, reply, readOf}
-use Rattle.reader.specs.Promises.{MinusZeroIsBad, RefusedIsZero}
-
-pub minus-zero-is-bad : MinusZeroIsBad
-unfolding signedAt after number more digitOf pick
-minus-zero-is-bad [] = refl
-minus-zero-is-bad (b ∷ rest) = split (ltb 9 (digitOf b)) (λ t. rw t) (λ t. rw t)
+use Rattle.reader.specs.Promises.{RefusedIsZero}
 
 reply-refused : (a : Answer) (s : Sheet) → isFine (reply a s .answer) ≡ false → reply a s .sheet ≡ zeroSheet
 unfolding reply pick

@@ -1,4 +1,3 @@
-pub mod Figures
 pub mod Line
 pub mod Read
 pub mod Promises

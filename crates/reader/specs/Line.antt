@@ -1,26 +1,15 @@
 -- A line of the text: its key, its numbers in the form that the table has for it, and a line feed.
-use Prim.Native.Nat.{ℕ, zero, suc, _+_, _-_}
+use Prim.Native.Nat.{ℕ, zero, suc, _+_}
 use mathlib.Core.List.{List}
 use mathlib.Core.Bool.{Bool, true, false}
 use lib.ListN.{set}
-use lib.Dec.{ltb, eqb}
+use lib.Dec.{eqb}
 use Rattle.units.specs.Numbers.{pick}
 use Rattle.rows.specs.Table.{worded, signed, keyOf, formOf, placeOf, widthOf}
-use Rattle.rows.specs.Marks.{markOf, minus, lineFeed, wordOf}
-use Rattle.reader.specs.declared.Figure.{Figure}
-use Rattle.reader.specs.declared.Figure.the-variants.{Bad, Is}
-use Rattle.reader.specs.declared.Place.{Place}
-use Rattle.reader.specs.declared.Place.the-variants.{Nowhere, At}
-use Rattle.reader.specs.Figures.{numberAt, afterAt}
-
--- what follows where a word or a number was found, and what follows where not
-abbrev pub onPlace : {A : Type 0} → Place → (ℕ → A) → A → A
-onPlace (At p) f d = f p
-onPlace Nowhere f d = d
-
-abbrev pub onFigure : {A : Type 0} → Figure → (ℕ → ℕ → A) → A → A
-onFigure (Is v p) f d = f v p
-onFigure Bad f d = d
+use Rattle.rows.specs.Marks.{markOf, lineFeed, wordOf}
+use Rattle.figures.specs.declared.Figure.{Figure}
+use Rattle.figures.specs.declared.Figure.the-variants.{Bad, Is}
+use Rattle.figures.specs.Figures.{onPlace, onFigure, numberAt, afterAt, signedAt}
 
 -- the number x where its word stands, else what the other words give
 abbrev pub namedAt : List ℕ → ℕ → ℕ → Figure → Figure
@@ -29,13 +18,6 @@ namedAt s at x other = onPlace (afterAt s at (wordOf x)) (λ p. Is x p) other
 -- "car, su, bus, wb50"; "Another vehicle word is refused 1"
 unfoldable pub wordAt : List ℕ → ℕ → Figure
 wordAt s at = namedAt s at 0 (namedAt s at 1 (namedAt s at 2 (namedAt s at 3 Bad)))
-
--- "only `grade` may carry `-`, and `-0` is malformed". It is kept as 1,000,000 more than it is
-unfoldable pub signedAt : List ℕ → ℕ → Figure
-signedAt s at =
-    onPlace (afterAt s at minus)
-    (λ p. onFigure (numberAt s p) (λ v q. pick (ltb v 1) Bad (Is (1000000 - v) q)) Bad)
-    (onFigure (numberAt s at) (λ v q. Is (1000000 + v) q) Bad)
 
 unfoldable pub fieldAt : List ℕ → ℕ → ℕ → Figure
 fieldAt s at form = pick (eqb form worded) (wordAt s at) (pick (eqb form signed) (signedAt s at) (numberAt s at))

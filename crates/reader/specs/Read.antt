@@ -12,8 +12,8 @@ use Rattle.sheet.specs.Refusals.{isFine, orElse}
 use Rattle.sheet.specs.Zero.{zeroSheet}
 use Rattle.rows.specs.Table.{rowCount, numberCount, present}
 use Rattle.numbers.specs.Flat.{sheetOf}
-use Rattle.accept.specs.Lines.{rowFault, lineAfter}
-use Rattle.accept.specs.Whole.{wholeFault}
+use Rattle.faults.specs.Lines.{rowFault, lineAfter}
+use Rattle.faults.specs.Whole.{wholeFault}
 use Rattle.reader.specs.declared.Reading.{Reading}
 use Rattle.reader.specs.Line.{Taken, lineAt}
 

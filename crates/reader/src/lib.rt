@@ -4,34 +4,18 @@ ghost use Prim.Native.Nat.{ℕ, _+_, _≤_, _<_};
 ghost use mathlib.Core.List.{List};
 ghost use lib.ListN.{take};
 ghost use Rattle.rows.specs.Table.{rowCount, numberCount};
-ghost use Rattle.rows.specs.Longest.{longest};
 ghost use Rattle.rows.specs.Marks.{markOf};
-ghost use Rattle.reader.specs.Figures.{digitOf, numberAt, afterAt};
-ghost use Rattle.reader.specs.Line.{onPlace, wordAt, signedAt, fieldAt, soFar, fields, ended, lineAt};
+ghost use Rattle.figures.specs.declared.Figure.the-variants.{Is};
+ghost use Rattle.figures.specs.Figures.{onPlace, afterAt};
+ghost use Rattle.reader.specs.Line.{wordAt, fieldAt, soFar, fields, ended, lineAt};
 ghost use Rattle.reader.specs.Read.{step, judgedAt, endAt, linesFrom, reply, readOf};
-ghost use Rattle.reader.specs.declared.Figure.the-variants.{Is};
+use figures::Figure;
+use figures::Place;
 use rows::NUMBERS;
 use rows::ROWS;
 use sheet::Answer;
 use sheet::Refusal;
 use sheet::Sheet;
-
-// The longest text that a sheet can have, and room for it and one byte: with so much a program sees that a text is longer.
-pub const LONGEST: usize = 1069;
-
-pub const BUFFER: usize = LONGEST + 1;
-
-// A number found in the text, and the place past it.
-pub enum Figure {
-    Bad,
-    Is(u32, usize),
-}
-
-// The place past a word found in the text.
-pub enum Place {
-    Nowhere,
-    At(usize),
-}
 
 // What was read of a line: whether it is well made, and the place past it. Its numbers are stored in the array lent.
 pub struct Found {
@@ -51,73 +35,11 @@ pub struct Reading {
     pub sheet: Sheet,
 }
 
-// The value of a digit's byte, 10 for any other byte.
-fn digit(b: u8) -> u32
-    ensures { λ r. ⌜ r ≡ digitOf b ⌝ }
-{
-    if b < 48 {
-        return 10;
-    }
-    if 57 < b {
-        return 10;
-    }
-    (b - 48) as u32
-}
-
-// The number that starts at a place of the text.
-pub fn number(s: &[u8], at: usize) -> Figure
-    ensures { λ r. ⌜ r ≡ numberAt (now (s .entry)) at ⌝ }
-{
-    if s.len() <= at {
-        return Figure::Bad;
-    }
-    let first = digit(s[at]);
-    if 9 < first {
-        return Figure::Bad;
-    }
-    let mut v = first;
-    let mut i = at + 1;
-    while i < s.len() {
-        let d = digit(s[i]);
-        if 9 < d {
-            return Figure::Is(v, i);
-        }
-        if v == 0 {
-            return Figure::Bad;
-        }
-        if 99999 < v {
-            return Figure::Bad;
-        }
-        v = v * 10 + d;
-        i = i + 1;
-    }
-    Figure::Is(v, i)
-}
-
-// The place past a word that stands at a place of the text.
-pub fn after(s: &[u8], at: usize, w: &[u8]) -> Place
-    ensures { λ r. ⌜ r ≡ afterAt (now (s .entry)) at (now (w .entry)) ⌝ }
-{
-    let mut i: usize = 0;
-    let mut p = at;
-    while i < w.len() {
-        if s.len() <= p {
-            return Place::Nowhere;
-        }
-        if s[p] != w[i] {
-            return Place::Nowhere;
-        }
-        i = i + 1;
-        p = p + 1;
-    }
-    Place::At(p)
-}
-
 // The number x where the word w stands at a place, and what the other words gave elsewhere.
 fn named(s: &[u8], at: usize, w: &[u8], x: u32, other: Figure) -> Figure
     ensures { λ r. ⌜ r ≡ onPlace (afterAt (now (s .entry)) at (now (w .entry))) (λ p. Is x p) other ⌝ }
 {
-    match after(s, at, w) {
+    match figures::after(s, at, w) {
         Place::At(p) => Figure::Is(x, p),
         Place::Nowhere => other,
     }
@@ -133,28 +55,6 @@ fn word(s: &[u8], at: usize) -> Figure
     named(s, at, b"car", 0, b)
 }
 
-// A number that may carry a minus, as 1,000,000 more than it is.
-fn signed(s: &[u8], at: usize) -> Figure
-    ensures { λ r. ⌜ r ≡ signedAt (now (s .entry)) at ⌝ }
-{
-    match after(s, at, b"-") {
-        Place::Nowhere => match number(s, at) {
-            Figure::Bad => Figure::Bad,
-            Figure::Is(v, q) => Figure::Is(1000000 + v, q),
-        },
-        Place::At(p) => match number(s, p) {
-            Figure::Bad => Figure::Bad,
-            Figure::Is(v, q) => {
-                if v < 1 {
-                    Figure::Bad
-                } else {
-                    Figure::Is(1000000 - v, q)
-                }
-            }
-        },
-    }
-}
-
 fn field(s: &[u8], at: usize, form: usize) -> Figure
     ensures { λ r. ⌜ r ≡ fieldAt (now (s .entry)) at form ⌝ }
 {
@@ -162,9 +62,9 @@ fn field(s: &[u8], at: usize, form: usize) -> Figure
         return word(s, at);
     }
     if form == rows::SIGNED {
-        return signed(s, at);
+        return figures::signed(s, at);
     }
-    number(s, at)
+    figures::number(s, at)
 }
 
 // What stands before number j of a line.
@@ -172,9 +72,9 @@ fn mark(s: &[u8], at: usize, j: usize) -> Place
     ensures { λ r. ⌜ r ≡ afterAt (now (s .entry)) at (markOf j) ⌝ }
 {
     if j < 1 {
-        after(s, at, b"=")
+        figures::after(s, at, b"=")
     } else {
-        after(s, at, b",")
+        figures::after(s, at, b",")
     }
 }
 
@@ -183,7 +83,7 @@ fn key(s: &[u8], at: usize, letters: [u8; 8], n: usize) -> Place
     requires { ⌜ n ≤ 8 ⌝ }
     ensures { λ r. ⌜ r ≡ afterAt (now (s .entry)) at (take n letters) ⌝ }
 {
-    after(s, at, &letters[0..n])
+    figures::after(s, at, &letters[0..n])
 }
 
 // n numbers of a line, stored from a place on.
@@ -229,7 +129,7 @@ fn ended(s: &[u8], found: Found) -> Found
 {
     if found.good {
         let at = found.next;
-        match after(s, at, b"\n") {
+        match figures::after(s, at, b"\n") {
             Place::Nowhere => Found {
                 good: false,
                 next: 0,
@@ -273,7 +173,7 @@ fn judged(s: &[u8], at: usize, row: usize, number: u32, v: &mut [u32; NUMBERS]) 
 {
     let found = line(s, at, row, v);
     if found.good {
-        let answer = accept::row_fault(v, row, number);
+        let answer = row_fault::row_fault(v, row, number);
         Reached {
             answer: answer,
             next: found.next,
@@ -314,7 +214,7 @@ fn lines(s: &[u8], v: &mut [u32; NUMBERS]) -> Reached
         if rows::present(v, row) {
             let taken = judged(s, at, row, number, v);
             let answer = taken.answer;
-            if sheet::is_fine(answer) {
+            if answers::is_fine(answer) {
                 at = taken.next;
                 number += 1;
                 row += 1;
@@ -332,13 +232,13 @@ fn lines(s: &[u8], v: &mut [u32; NUMBERS]) -> Reached
 fn reply(answer: Answer, s: Sheet) -> Reading
     ensures { λ r. ⌜ r ≡ reply answer s ⌝ }
 {
-    if sheet::is_fine(answer) {
+    if answers::is_fine(answer) {
         Reading {
             answer: answer,
             sheet: s,
         }
     } else {
-        let zero = sheet::zero_sheet();
+        let zero = zeros::zero_sheet();
         Reading {
             answer: answer,
             sheet: zero,
@@ -353,17 +253,10 @@ pub fn read(text: &[u8]) -> Reading
     let mut numbers = [0u32; NUMBERS];
     let found = lines(text, &mut numbers);
     let answer = found.answer;
-    if sheet::is_fine(answer) {
-        let s = numbers::sheet_of(&numbers);
-        return reply(accept::whole_fault(s), s);
+    if answers::is_fine(answer) {
+        let s = from_numbers::sheet_of(&numbers);
+        return reply(whole_fault::whole_fault(s), s);
     }
-    let zero = sheet::zero_sheet();
+    let zero = zeros::zero_sheet();
     reply(answer, zero)
-}
-
-// How many bytes of a text decide what it is read as.
-pub fn buffer() -> usize
-    ensures { λ r. ⌜ r ≡ longest + 1 ⌝ }
-{
-    BUFFER
 }

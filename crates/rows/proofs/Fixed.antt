@@ -9,8 +9,6 @@ use Rattle.rows.proofs.place.Kinds as place-kinds
 use Rattle.rows.proofs.place.Reads as place-reads
 use Rattle.rows.proofs.width.Kinds as width-kinds
 use Rattle.rows.proofs.width.Reads as width-reads
-use Rattle.rows.proofs.in_ranges.Kinds as in-ranges-kinds
-use Rattle.rows.proofs.in_ranges.Reads as in-ranges-reads
 use Rattle.rows.proofs.present.Kinds as present-kinds
 use Rattle.rows.proofs.present.Reads as present-reads
 
@@ -37,12 +35,6 @@ width-fixed κs a z z′ w w′ p q = (p ∙ sym q, refl)
 
 pub width-open : AsksNothing 0 width-kinds.ps width-reads.Asked
 width-open κs a = tt
-
-pub in-ranges-fixed : Fixes 1 in-ranges-kinds.ps in-ranges-kinds.r in-ranges-reads.Learnt
-in-ranges-fixed κs a z z′ w w′ p q = (p ∙ sym q, refl)
-
-pub in-ranges-open : AsksNothing 1 in-ranges-kinds.ps in-ranges-reads.Asked
-in-ranges-open κs a = tt
 
 pub present-fixed : Fixes 1 present-kinds.ps present-kinds.r present-reads.Learnt
 present-fixed κs a z z′ w w′ p q = (p ∙ sym q, refl)

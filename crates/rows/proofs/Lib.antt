@@ -1,4 +1,3 @@
 pub mod Tables
 pub mod Keys
-pub mod Ranges
 pub mod Fixed

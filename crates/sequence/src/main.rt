@@ -1,67 +1,48 @@
 // The bench: a site sheet on standard input, a line `run`, then one event a line; on standard output what the unit shows.
 use libc::STDIN_FILENO;
-use libc::STDOUT_FILENO;
-use orders::Order;
 use reader::Reading;
 use sheet::Answer;
-use shown::Shown;
 use stage::Command;
 use unit::Unit;
 
-mod orders;
-mod shown;
+mod marks;
+mod prints;
 
-fn print_refusal(number: u64, line: u64) {
-    io::write_all(STDOUT_FILENO, b"refused=");
-    print_pair(number, line);
-}
-
-fn print_pair(number: u64, line: u64) {
-    io::print_decimal(STDOUT_FILENO, number);
-    io::write_all(STDOUT_FILENO, b",");
-    io::print_decimal(STDOUT_FILENO, line);
-    io::write_all(STDOUT_FILENO, b"\n");
-}
-
-fn print_answer(answer: Answer) {
-    print_pair(
-        sheet::answer_number(answer) as u64,
-        sheet::answer_line(answer) as u64,
-    );
-}
-
-// TICK,STAGE,PHASE,WALKER,NUMBER,LINE
-fn print_state(tick: u64, shown: Shown, answer: Answer) {
-    io::print_decimal(STDOUT_FILENO, tick);
-    shown::print(shown);
-    print_answer(answer);
+// A unit, the ticks it has run, and the place of the next event and how many lines stand before it.
+struct Run {
+    unit: Unit,
+    tick: u64,
+    at: usize,
+    line: usize,
 }
 
 // A tick is printed where what is shown changed or the command was refused.
-fn print_tick(tick: u64, before: Shown, after: Shown, answer: Answer) {
-    if shown::same(before, after) {
-        if sheet::is_fine(answer) {
+fn print_tick(tick: u64, before: Unit, after: Unit, answer: Answer) {
+    let left = before.stage;
+    let entered = after.stage;
+    if shown::same(
+        shown::of(before.sheet, left),
+        shown::of(after.sheet, entered),
+    ) {
+        if answers::is_fine(answer) {
             return;
         }
     }
-    print_state(tick, after, answer);
+    prints::state(tick, after, answer);
 }
 
 // As many ticks as the order has, each with its command and its call.
 fn ticks(first: Unit, from: u64, command: Command, call: bool, count: u32) -> Unit {
     let mut unit = first;
     let mut tick = from;
-    let mut before = shown::of(first);
     let mut i: u32 = 0;
     while i < count {
         let reply = unit.tick(command, call);
         let next = reply.unit;
         let answer = reply.answer;
-        let after = shown::of(next);
         tick = std::num::wrapping_add_u64(tick, 1);
-        print_tick(tick, before, after, answer);
+        print_tick(tick, unit, next, answer);
         unit = next;
-        before = after;
         i += 1;
     }
     unit
@@ -77,87 +58,98 @@ fn read(s: &[u8], start: usize, end: usize) -> Reading {
     reader::read(b"")
 }
 
-// A text offered to the loader: a refusal of the reading is the reply.
+// A text offered to the loader: a refusal of the reading is the reply. Its sheet is then all zeros, which the loader refuses too.
 fn load(unit: Unit, tick: u64, reading: Reading) -> Unit {
-    let answer = reading.answer;
-    if sheet::is_fine(answer) {
-        let reply = unit.load(reading.sheet);
-        let next = reply.unit;
-        let loaded = reply.answer;
-        print_state(tick, shown::of(next), loaded);
-        next
-    } else {
-        print_state(tick, shown::of(unit), answer);
-        unit
+    let reply = unit.load(reading.sheet);
+    let after = reply.unit;
+    let read = reading.answer;
+    let loaded = reply.answer;
+    prints::state(tick, after, answers::or_else(read, loaded));
+    after
+}
+
+// An event, and the place of the next one; a malformed one is the last. A load's text ends with a line `done`, and without one is malformed.
+fn event(s: &[u8], run: Run) -> Run {
+    let unit = run.unit;
+    let start = orders::past(s, run.at, b"load\n");
+    if start <= s.len() {
+        let done = marks::find_line(s, run.at, b"done\n");
+        if done.next <= s.len() {
+            return Run {
+                unit: load(unit, run.tick, read(s, start, done.start)),
+                tick: run.tick,
+                at: done.next,
+                line: std::num::wrapping_add_usize(run.line, done.lines),
+            };
+        }
+    }
+    let order = orders::read(s, run.at);
+    let command = order.command;
+    let line = std::num::wrapping_add_usize(run.line, 1);
+    let mut count = order.count;
+    if s.len() < order.next {
+        prints::refusal(1, line as u64);
+        count = 0;
+    }
+    Run {
+        unit: ticks(unit, run.tick, command, order.call, count),
+        tick: std::num::wrapping_add_u64(run.tick, count as u64),
+        at: order.next,
+        line: line,
     }
 }
 
-fn obey(s: &[u8], unit: Unit, tick: u64, order: Order) -> Unit {
-    match order {
-        Order::Ticks(command, call, count) => ticks(unit, tick, command, call, count),
-        Order::Load(start, end) => load(unit, tick, read(s, start, end)),
-    }
-}
-
-// The events from the place `from` on, the first of which stands on that line: no more of them than the text has bytes.
-fn events(s: &[u8], first: Unit, from: usize, first_line: u64) {
-    let mut unit = first;
-    let mut tick: u64 = 0;
-    let mut at = from;
-    let mut line = first_line;
-    let mut left: u32 = 65537;
+// The events from a place on: no more of them than the text has bytes.
+fn events(s: &[u8], first: Run) {
+    let mut run = first;
+    let mut left: usize = s.len();
     while 0 < left {
-        if s.len() <= at {
+        if s.len() <= run.at {
             return;
         }
-        let event = orders::read_event(s, at);
-        if event.malformed {
-            print_refusal(1, line);
-            return;
-        }
-        let order = event.order;
-        let next = obey(s, unit, tick, order);
-        unit = next;
-        tick = std::num::wrapping_add_u64(tick, event.ticks);
-        at = event.next;
-        line = std::num::wrapping_add_u64(line, event.lines);
+        let next = event(s, run);
+        run = next;
         left -= 1;
     }
 }
 
-// The sheet's text up to the place `end`, then the events.
-fn bench(s: &[u8], end: usize, at: usize, line: u64) {
-    let reading = read(s, 0, end);
+// The sheet's text up to a line `run`, then the events; without that line it is a sheet alone.
+fn bench(s: &[u8]) {
+    let run = marks::find_line(s, 0, b"run\n");
+    let reading = read(s, 0, run.start);
     let answer = reading.answer;
-    if sheet::is_fine(answer) {
+    if answers::is_fine(answer) {
         let started = unit::start(reading.sheet);
         let unit = started.unit;
         let fine = started.answer;
-        print_state(0, shown::of(unit), fine);
-        events(s, unit, at, line);
+        prints::state(0, unit, fine);
+        events(
+            s,
+            Run {
+                unit: unit,
+                tick: 0,
+                at: run.next,
+                line: run.lines,
+            },
+        );
     } else {
-        io::write_all(STDOUT_FILENO, b"refused=");
-        print_answer(answer);
+        prints::refusal(
+            answers::answer_number(answer) as u64,
+            answers::answer_line(answer) as u64,
+        );
     }
 }
 
-// Without a line `run` it is a sheet alone.
-fn all(s: &[u8]) {
-    let run = orders::find_line(s, 0, b"run\n");
-    if run.found {
-        let line = std::num::wrapping_add_u64(run.lines, 2);
-        bench(s, run.start, run.next, line);
-    } else {
-        bench(s, s.len(), s.len(), 0);
-    }
-}
-
+// A text has at most 65536 bytes: where that many came, one more is asked for.
 fn main() {
-    let mut buffer = [0u8; 65537];
+    let mut buffer = io::large_buffer();
+    let mut beyond = [0u8; 1];
     let n = io::read_full(STDIN_FILENO, &mut buffer);
-    if 65536 < n {
-        print_refusal(1, 0);
-    } else {
-        all(&buffer[..n]);
+    if n == 65536 {
+        if io::read_full(STDIN_FILENO, &mut beyond) == 1 {
+            prints::refusal(1, 0);
+            return;
+        }
     }
+    bench(&buffer[..n]);
 }

@@ -1,3 +1,1 @@
-pub mod Along
 pub mod Fit
-pub mod Fixed

@@ -8,8 +8,8 @@ use sheet::Sheet;
 
 // The 61 lines, in order, on one line.
 fn print_lines(sheet: Sheet) {
-    let worked = lines::worksheet(sheet);
-    let all = lines::in_order(worked.lines);
+    let worked = form::worksheet(sheet);
+    let all = listing::in_order(worked.lines);
     let mut i: usize = 0;
     while i < 61 {
         io::write_all(STDOUT_FILENO, b" ");
@@ -21,10 +21,10 @@ fn print_lines(sheet: Sheet) {
 fn print_answer(text: &[u8]) {
     let reading = reader::read(text);
     let answer = reading.answer;
-    io::print_decimal(STDOUT_FILENO, sheet::answer_number(answer) as u64);
+    io::print_decimal(STDOUT_FILENO, answers::answer_number(answer) as u64);
     io::write_all(STDOUT_FILENO, b",");
-    io::print_decimal(STDOUT_FILENO, sheet::answer_line(answer) as u64);
-    if sheet::is_fine(answer) {
+    io::print_decimal(STDOUT_FILENO, answers::answer_line(answer) as u64);
+    if answers::is_fine(answer) {
         print_lines(reading.sheet);
     }
     io::write_all(STDOUT_FILENO, b"\n");

@@ -15,8 +15,8 @@ use Rattle.sheet.specs.declared.Refusal.the-variants.{OutOfRange, PointsDontRis
 use Rattle.sheet.specs.Refusals.{orElse, unless}
 use Rattle.rows.specs.Table.{placeFor, firstPhase, firstPoint, rowCount, Range, kinds, rows, kindOf, formOf, rangesOf, widthOf, placeOf, inRanges, present, phaseKind, pointKind}
 use Rattle.numbers.specs.Flat.{phasePlace, pointPlace, phaseAt, pointAt}
-use Rattle.accept.specs.Lines.{phaseFault, startsAtZero, pointRises, beforePhase, pointFits, ruleFault, rowFault}
-use Rattle.accept.proofs.Sound.{phase-place, point-place}
+use Rattle.faults.specs.Lines.{phaseFault, startsAtZero, pointRises, beforePhase, pointFits, ruleFault, rowFault}
+use Rattle.faults.proofs.Sound.{phase-place, point-place}
 use Rattle.writer.specs.Text.{fieldsText, rowText}
 use Rattle.rows.proofs.Tables.{pastPhases}
 

@@ -16,11 +16,11 @@ use Rattle.sheet.proofs.Answers.{is-fine}
 use Rattle.rows.specs.Table.{rowCount, numberCount, formOf, keyOf, widthOf, placeOf, present}
 use Rattle.rows.specs.Marks.{markOf, lineFeed}
 use Rattle.rows.proofs.Tables.{place-room}
-use Rattle.accept.specs.Lines.{rowFault, hereFault, lineAfter, faultFrom}
+use Rattle.faults.specs.Lines.{rowFault, hereFault, lineAfter, faultFrom}
 use Rattle.reader.specs.Line.{Taken}
 use Rattle.reader.specs.Read.{Step}
-use Rattle.reader.specs.declared.Place.the-variants.{At}
-use Rattle.reader.specs.Figures.{afterAt}
+use Rattle.figures.specs.declared.Place.the-variants.{At}
+use Rattle.figures.specs.Figures.{afterAt}
 use Rattle.reader.specs.Line.{fieldAt, bad, good, fields, ended, lineAt}
 use Rattle.reader.specs.Read.{judgedAt, endAt, onStep, hereAt, linesFrom, linesOf}
 use Rattle.writer.specs.Text.{fieldsText, rowText, hereText, textFrom}

@@ -10,14 +10,14 @@ use Rattle.units.specs.Numbers.{pick}
 use Rattle.units.proofs.Steps.{split}
 use Rattle.rows.specs.Table.{bytes, Range, _to_, worded, signed}
 use Rattle.rows.specs.Marks.{minus, words, wordOf}
-use Rattle.accept.specs.Ranges.{Between}
-use Rattle.reader.specs.declared.Figure.{Figure}
-use Rattle.reader.specs.declared.Figure.the-variants.{Bad, Is}
-use Rattle.reader.specs.declared.Place.{Place}
-use Rattle.reader.specs.declared.Place.the-variants.{Nowhere, At}
-use Rattle.reader.specs.Figures.{digitOf, number, after, numberAt, afterAt}
-use Rattle.reader.specs.Line.{namedAt, wordAt, signedAt, fieldAt}
-use Rattle.reader.proofs.Small.{bad-is, number-small}
+use Rattle.faults.specs.Ranges.{Between}
+use Rattle.figures.specs.declared.Figure.{Figure}
+use Rattle.figures.specs.declared.Figure.the-variants.{Bad, Is}
+use Rattle.figures.specs.declared.Place.{Place}
+use Rattle.figures.specs.declared.Place.the-variants.{Nowhere, At}
+use Rattle.figures.specs.Figures.{digitOf, number, after, numberAt, afterAt, signedAt}
+use Rattle.reader.specs.Line.{namedAt, wordAt, fieldAt}
+use Rattle.figures.proofs.Small.{bad-is, number-small}
 use Rattle.writer.specs.Digits.{digits}
 use Rattle.writer.specs.Text.{figures, signedText, fieldText}
 use Rattle.trips.proofs.Cuts.{Cut, cut-then, cut-same, past}

@@ -8,10 +8,10 @@ use lib.Dec.{ltb, eqb}
 use borrow.Author.Tests.{le-ltb, lt-ltb, eq-eqb, ltb-true, ltb-false, eqb-true}
 use Rattle.units.specs.Numbers.{pick}
 use Rattle.units.proofs.Steps.{split}
-use Rattle.reader.specs.declared.Figure.the-variants.{Is}
-use Rattle.reader.specs.declared.Place.the-variants.{Nowhere, At}
-use Rattle.reader.specs.Figures.{digitOf, more, number, after, numberAt, afterAt}
-use Rattle.reader.proofs.Small.{bad-is}
+use Rattle.figures.specs.declared.Figure.the-variants.{Is}
+use Rattle.figures.specs.declared.Place.the-variants.{Nowhere, At}
+use Rattle.figures.specs.Figures.{digitOf, more, number, after, numberAt, afterAt}
+use Rattle.figures.proofs.Small.{bad-is}
 use Rattle.writer.specs.Digits.{digitsIn, digits}
 use Rattle.writer.proofs.Decimals.{ten, digits-more}
 use Rattle.trips.proofs.Cuts.{Begins, Cut, cut}

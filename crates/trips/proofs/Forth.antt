@@ -17,12 +17,12 @@ use Rattle.sheet.proofs.Answers.{both-fine, passes}
 use Rattle.rows.specs.Table.{rowCount, numberCount, kindCount, bytes, Range, kinds, none, formOf, keyOf, kindOf, rangesOf, widthOf, placeOf, present}
 use Rattle.rows.specs.Marks.{markOf, lineFeed}
 use Rattle.rows.proofs.Tables.{place-room, place-past, kind-few, for-each, kindRanges, rangeAt}
-use Rattle.accept.specs.Lines.{rowFault, hereFault, lineAfter, faultFrom}
-use Rattle.accept.specs.Ranges.{Between}
-use Rattle.accept.proofs.Rows.{in-each}
-use Rattle.reader.specs.declared.Place.the-variants.{At}
-use Rattle.reader.specs.declared.Figure.the-variants.{Is}
-use Rattle.reader.specs.Figures.{digitOf, afterAt}
+use Rattle.faults.specs.Lines.{rowFault, hereFault, lineAfter, faultFrom}
+use Rattle.faults.specs.Ranges.{Between}
+use Rattle.faults.proofs.Rows.{in-each}
+use Rattle.figures.specs.declared.Place.the-variants.{At}
+use Rattle.figures.specs.declared.Figure.the-variants.{Is}
+use Rattle.figures.specs.Figures.{digitOf, afterAt}
 use Rattle.reader.specs.Line.{fieldAt, good, fields, lineAt}
 use Rattle.reader.specs.Read.{step, judgedAt, endAt, hereAt, linesFrom, linesOf}
 use Rattle.writer.specs.Text.{fieldText, fieldsText, rowText, hereText, textFrom}

@@ -14,12 +14,12 @@ use Rattle.sheet.specs.Refusals.{isFine, orElse}
 use Rattle.rows.specs.Table.{rowCount, numberCount, bytes, worded, signed, keyOf, formOf, placeOf, widthOf, present}
 use Rattle.rows.specs.Marks.{markOf, minus, lineFeed, wordOf}
 use Rattle.numbers.specs.Flat.{sheetOf}
-use Rattle.accept.specs.Lines.{lineAfter}
-use Rattle.accept.specs.Whole.{wholeFault}
+use Rattle.faults.specs.Lines.{lineAfter}
+use Rattle.faults.specs.Whole.{wholeFault}
 use Rattle.reader.specs.Line.{Taken}
 use Rattle.reader.specs.Read.{Step}
-use Rattle.reader.specs.Figures.{digitOf, more, number, after, numberAt, afterAt}
-use Rattle.reader.specs.Line.{wordAt, signedAt, fieldAt, good, fields, ended, lineAt}
+use Rattle.figures.specs.Figures.{digitOf, more, number, after, numberAt, afterAt, signedAt}
+use Rattle.reader.specs.Line.{wordAt, fieldAt, good, fields, ended, lineAt}
 use Rattle.reader.specs.Read.{judgedAt, endAt, onStep, hereAt, linesFrom, reply, readOf}
 use Rattle.rows.specs.Longest.{longestField, longestFields, longestRow, longestFrom, longest}
 use Rattle.writer.proofs.Lengths.{short-word, short-field, mark-long}

@@ -19,11 +19,11 @@ use Rattle.sheet.proofs.Answers.{both-fine, bad-or}
 use Rattle.rows.specs.Table.{rowCount, numberCount, kinds, rows, kindOf, rangesOf, widthOf, placeOf, present}
 use Rattle.numbers.specs.Flat.{numbersFrom, flatOf, sheetOf}
 use Rattle.numbers.proofs.Again.{Graded, numbers-again, sheet-again}
-use Rattle.accept.specs.Lines.{linesFault}
-use Rattle.accept.specs.Whole.{wholeFault, acceptOf}
-use Rattle.accept.specs.Ranges.{Between}
-use Rattle.accept.proofs.Rows.{in-each, fine-rows, row-ranges}
-use Rattle.accept.proofs.Sound.{sound}
+use Rattle.faults.specs.Lines.{linesFault}
+use Rattle.faults.specs.Whole.{wholeFault, acceptOf}
+use Rattle.faults.specs.Ranges.{Between}
+use Rattle.faults.proofs.Rows.{in-each, fine-rows, row-ranges}
+use Rattle.faults.proofs.Sound.{sound}
 use Rattle.reader.specs.declared.Reading.{Reading}
 use Rattle.reader.specs.Read.{Step}
 use Rattle.reader.specs.Read.{linesOf, reply, readOf}
@@ -51,9 +51,9 @@ unfolding trimmed flatOf
 sheet-kept s h g =
     sheet-again (trimmed s) (kept-long zeroPhase (s .«phase_count») (s .phases) ∙ h .phases) (kept-long zeroPoint (s .«point_count») (s .points) ∙ h .points) (graded _ g)
 
-pub sheet-to-text : SheetToText
+read-again : (s : Sheet) → Shaped s → acceptOf s ≡ Fine → readOf (textOf s) ≡ record { answer = Fine; sheet = trimmed s }
 unfolding acceptOf readOf reply orElse pick flatOf
-sheet-to-text s h e =
+read-again s h e =
     let both = both-fine _ _ e in
     let k = sound s e in
     let t = text-read (flatOf (trimmed s)) (flat-long (trimmed s)) (clear s) (fault-same s ∙ both .0) in
@@ -61,6 +61,9 @@ sheet-to-text s h e =
     ∙ ap (λ (x : Step). reply (orElse (x .answer) (wholeFault (sheetOf (x .numbers)))) (sheetOf (x .numbers))) t
     ∙ ap (λ (x : Sheet). reply (wholeFault x) x) (sheet-kept s h (k .grade))
     ∙ ap (λ (a : Answer). reply a (trimmed s)) (whole-same s (omega (arith, k .«point_count» .low)) ∙ both .1)
+
+pub sheet-to-text : SheetToText
+sheet-to-text s h e = rw (read-again s h e) refl
 
 blank-same : (s : Sheet) → Blank s → trimmed s ≡ s
 unfolding trimmed

@@ -20,9 +20,9 @@ use Rattle.sheet.specs.Zero.{zeroPhase, zeroPoint}
 use Rattle.rows.specs.Table.{mostPhases, mostPoints, placeFor, firstPhase, firstPoint, rowCount, kinds, rows, kindOf, rangesOf, widthOf, placeOf, present}
 use Rattle.numbers.specs.Flat.{phasePlace, pointPlace, phaseNumbers, pointNumbers, numbersFrom, flatOf, phaseAt, pointAt}
 use Rattle.transfer.specs.Transfer.{trackFits}
-use Rattle.accept.specs.Lines.{hereFault, lineAfter, ruleFault, faultFrom}
-use Rattle.accept.specs.Whole.{leastWarning, line48, wholeFault}
-use Rattle.accept.proofs.Sound.{phase-in, point-in, phases-at, points-at, phase-kind, phase-place, point-kind, point-place}
+use Rattle.faults.specs.Lines.{hereFault, lineAfter, ruleFault, faultFrom}
+use Rattle.faults.specs.Whole.{leastWarning, line48, wholeFault}
+use Rattle.faults.proofs.Sound.{phase-in, point-in, phases-at, points-at, phase-kind, phase-place, point-kind, point-place}
 use Rattle.writer.specs.Text.{hereText, textFrom}
 use Rattle.trips.specs.Promises.{trimmed}
 use Rattle.trips.proofs.Kept.{kept-at, kept-past, kept-take}

@@ -13,7 +13,7 @@ use Rattle.sheet.specs.Refusals.{isFine}
 use Rattle.sheet.specs.Zero.{zeroPhase, zeroPoint}
 use Rattle.rows.specs.Table.{mostPhases, mostPoints}
 use Rattle.rows.specs.Longest.{longest}
-use Rattle.accept.specs.Whole.{acceptOf}
+use Rattle.faults.specs.Whole.{acceptOf}
 use Rattle.reader.specs.Read.{readOf}
 use Rattle.writer.specs.Text.{textOf}
 use Rattle.writer.specs.Write.{writtenOf, bytesOf}

@@ -13,9 +13,10 @@ use Rattle.flow.specs.declared.Now.{Now}
 use Rattle.flow.specs.Tick.{ticked}
 use Rattle.flow.specs.Promises.{Fits}
 use Rattle.flow.proofs.Fit as flow
-use Rattle.unit.specs.declared.Measured.{Measured}
+use Rattle.measured.specs.declared.Measured.{Measured}
 use Rattle.unit.specs.declared.Unit.{Unit}
-use Rattle.unit.specs.Unit.{lengthsOf, accepted, measureOf, nowOf, holding, fitsIn, fitsWith, fits, tickOf, fresh}
+use Rattle.measured.specs.Measured.{lengthsOf, accepted, measureOf}
+use Rattle.unit.specs.Unit.{nowOf, holding, fitsIn, fitsWith, fits, tickOf, fresh}
 
 -- ---- what the test says
 -- whatever a worksheet worked out once gave the test

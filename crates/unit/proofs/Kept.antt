@@ -19,7 +19,9 @@ use Rattle.stage.specs.declared.Command.{Command}
 use Rattle.flow.specs.Tick.{ticked}
 use Rattle.unit.specs.declared.Reply.{Reply}
 use Rattle.unit.specs.declared.Unit.{Unit}
-use Rattle.unit.specs.Unit.{lengthsOf, accepted, nowOf, fits, tickOf, started, startOf, resting, newer, placeAnswer, loadAnswer, loaded, loadOf}
+use Rattle.measured.specs.Measured.{lengthsOf, accepted}
+use Rattle.loading.specs.Loading.{newer}
+use Rattle.unit.specs.Unit.{nowOf, fits, tickOf, started, startOf, resting, placeAnswer, loadAnswer, loaded, loadOf}
 use Rattle.unit.specs.Runs.{Event, tick, load, answerTo, run}
 use Rattle.unit.specs.Promises.{IssueKept, FitsKept, StartFits}
 use Rattle.unit.proofs.Fit.{fresh-fits, onward-fits}

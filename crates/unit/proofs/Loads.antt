@@ -18,8 +18,10 @@ use Rattle.stage.specs.declared.Stage.the-variants.{TrackGreen, TrackYellow, Tr
 use Rattle.stage.specs.Shown.{isTrackGreen}
 use Rattle.unit.specs.declared.Reply.{Reply}
 use Rattle.unit.specs.declared.Unit.{Unit}
-use Rattle.unit.specs.Unit.{accepted, fits, resting, newer, placeAnswer, loadAnswer, loaded}
-use Rattle.unit.specs.Promises.{NotLoaded, Loadable, LoadNeeds, LoadTakes, LoadOrder, Issues}
+use Rattle.measured.specs.Measured.{accepted}
+use Rattle.loading.specs.Loading.{newer}
+use Rattle.unit.specs.Unit.{fits, resting, placeAnswer, loadAnswer, loaded}
+use Rattle.unit.specs.Promises.{NotLoaded, Loadable, LoadNeeds, LoadTakes, LoadOrder}
 
 shows-green : (st : Stage) → isTrackGreen st ≡ true → st ≡ TrackGreen
 unfolding isTrackGreen
@@ -122,6 +124,3 @@ load-order u s =
       elsewhere = λ f a n. answered u s _ (place u s f a ∙ elsewhere u s (not-resting u n));
       old = λ f a g z h. answered u s _ (place u s f a ∙ old u s (at-rest u g z) h);
     }
-
-pub issues : Issues
-issues = (refl, refl, refl, refl)

@@ -11,7 +11,8 @@ use Rattle.stage.specs.declared.Lengths.{Lengths}
 use Rattle.flow.specs.declared.Now.{Now}
 use Rattle.flow.specs.Tick.{ticked}
 use Rattle.unit.specs.declared.Unit.{Unit}
-use Rattle.unit.specs.Unit.{lengthsOf, nowOf, holding, fits, tickOf}
+use Rattle.measured.specs.Measured.{lengthsOf}
+use Rattle.unit.specs.Unit.{nowOf, holding, fits, tickOf}
 use Rattle.unit.specs.Runs.{tick, answerTo, run, passing}
 use Rattle.unit.proofs.Fit.{onward, tick-is, onward-fits}
 

@@ -19,7 +19,8 @@ use Rattle.flow.proofs.Dwell as flow
 use Rattle.lines.specs.Worksheet.{worksheetOf}
 use Rattle.unit.specs.declared.Reply.{Reply}
 use Rattle.unit.specs.declared.Unit.{Unit}
-use Rattle.unit.specs.Unit.{lengthsOf, nowOf, holding, fits, replied, tickOf, fresh, started}
+use Rattle.measured.specs.Measured.{lengthsOf}
+use Rattle.unit.specs.Unit.{nowOf, holding, fits, replied, tickOf, fresh, started}
 use Rattle.unit.specs.Promises.{Unchanged, AsWithNone, NoLine, RefusedStart}
 
 -- a command is answered fine or 23, and no line is named

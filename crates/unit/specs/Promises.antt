@@ -13,7 +13,8 @@ use Rattle.stage.specs.declared.Command.{Command}
 use Rattle.stage.specs.declared.Command.the-variants.{None}
 use Rattle.stage.specs.declared.Stage.the-variants.{TrackGreen}
 use Rattle.unit.specs.declared.Unit.{Unit}
-use Rattle.unit.specs.Unit.{accepted, fits, tickOf, newer, fresh, startOf, loadOf}
+use Rattle.measured.specs.Measured.{accepted}
+use Rattle.unit.specs.Unit.{fits, tickOf, fresh, startOf, loadOf}
 use Rattle.unit.specs.Runs.{Event, run}
 
 -- ---- refused replies: "After 20 or a refused load the unit is unchanged; after 23 the tick passes as with none"; 20 to 23 have line 0
@@ -57,10 +58,6 @@ pub record FirstRefusal (u : Unit) (s : Sheet) : Type 0 where
 
 abbrev pub LoadOrder : Type 0
 LoadOrder = (u : Unit) (s : Sheet) → FirstRefusal u s
-
--- issues are compared whole, not in eight bits
-abbrev pub Issues : Type 0
-Issues = (newer 255 256 ≡ true) × (newer 256 1 ≡ false) × (newer 256 256 ≡ false) × (newer 65534 65535 ≡ true)
 
 -- ---- over any events
 -- from any unit the issue held never falls

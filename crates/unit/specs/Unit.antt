@@ -9,7 +9,6 @@ use Rattle.sheet.specs.declared.Refusal.the-variants.{UnitUnfit, LoadNotNow, Is
 use Rattle.sheet.specs.declared.Sheet.{Sheet}
 use Rattle.sheet.specs.Refusals.{isFine, orElse, unless}
 use Rattle.sheet.specs.Zero.{zeroSheet}
-use Rattle.rules.specs.Rules.{ticks}
 use Rattle.lines.specs.Worksheet.{worksheetOf}
 use Rattle.stage.specs.declared.Command.{Command}
 use Rattle.stage.specs.declared.Lengths.{Lengths}
@@ -19,26 +18,11 @@ use Rattle.stage.specs.Fitness.{stageFits}
 use Rattle.flow.specs.declared.Now.{Now}
 use Rattle.flow.specs.declared.Ticked.{Ticked}
 use Rattle.flow.specs.Tick.{ticked}
-use Rattle.unit.specs.declared.Measured.{Measured}
+use Rattle.measured.specs.declared.Measured.{Measured}
+use Rattle.measured.specs.Measured.{lengthsOf, measureOf}
+use Rattle.loading.specs.Loading.{placeBy, answerBy}
 use Rattle.unit.specs.declared.Reply.{Reply}
 use Rattle.unit.specs.declared.Unit.{Unit}
-
--- what the sheet held says to the sequence: lines 3 and 51 in ticks, "A tick is one tenth", and the track's yellow and red
-abbrev pub lengthsOf : Sheet → Lengths
-lengthsOf s =
-    record {
-      l03 = ticks (worksheetOf s .lines .l03);
-      l51 = ticks (worksheetOf s .lines .l51);
-      «track_yellow» = s .«track_yellow»;
-      «track_red» = s .«track_red»;
-    }
-
--- the sheet is not refused
-abbrev pub accepted : Sheet → Bool
-accepted s = isFine (worksheetOf s .answer)
-
-abbrev pub measureOf : Sheet → Measured
-measureOf s = record { accepted = accepted s; lengths = lengthsOf s }
 
 -- what the unit shows and counts, and a unit on the sheet that shows and counts so
 abbrev pub nowOf : Unit → Now
@@ -54,7 +38,7 @@ fitsIn t u = both (leb (u .count) (t .l03)) (stageFits t (u .sheet) (u .stage))
 
 -- "a refused sheet" before these
 unfoldable pub fitsWith : Measured → Unit → Bool
-fitsWith m u = both (m .accepted) (fitsIn (m .lengths) u)
+fitsWith m u = both (isFine (m .answer)) (fitsIn (m .lengths) u)
 
 abbrev pub fits : Unit → Bool
 fits u = fitsWith (measureOf (u .sheet)) u
@@ -84,17 +68,13 @@ startOf s = started s (worksheetOf s .answer)
 unfoldable pub resting : Unit → Bool
 resting u = both (isTrackGreen (u .stage)) (eqb (u .count) 0)
 
--- "issue not above the one held" is refused
-abbrev pub newer : ℕ → ℕ → Bool
-newer held offered = ltb held offered
-
 -- "21 before 22"
 unfoldable pub placeAnswer : Unit → Sheet → Answer
-placeAnswer u s = orElse (unless (resting u) LoadNotNow 0) (unless (newer (u .sheet .issue) (s .issue)) IssueNotNewer 0)
+placeAnswer u s = placeBy (resting u) (u .sheet .issue) (s .issue)
 
 -- "20 before all others"; then the sheet offered "meets 2 to 10 again .. before 11, 21 or 22"
 unfoldable pub loadAnswer : Unit → Sheet → Answer
-loadAnswer u s = orElse (unless (fits u) UnitUnfit 0) (orElse (worksheetOf s .answer) (placeAnswer u s))
+loadAnswer u s = answerBy (fits u) (worksheetOf s .answer) (placeAnswer u s)
 
 -- after "a refused load the unit is unchanged"
 unfoldable pub loaded : Unit → Sheet → Answer → Reply

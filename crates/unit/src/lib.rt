@@ -1,9 +1,8 @@
 // The sequence unit: a sheet, the stage shown and the count of the call. Here a start; `sequence` has the tick and the loader.
 ghost use mathlib.Core.Path.{_≡_};
-ghost use Rattle.unit.specs.Unit.{measureOf, fresh, started, startOf};
+ghost use Rattle.unit.specs.Unit.{fresh, started, startOf};
 use sheet::Answer;
 use sheet::Sheet;
-use stage::Lengths;
 use stage::Stage;
 
 mod sequence;
@@ -20,31 +19,6 @@ pub struct Reply {
     pub answer: Answer,
 }
 
-// What the worksheet of the sheet says to a unit that holds it: worked out once for all of a tick or a load.
-pub struct Measured {
-    pub accepted: bool,
-    pub lengths: Lengths,
-}
-
-fn measure(sheet: Sheet) -> Measured
-    ensures { λ r. ⌜ r ≡ measureOf sheet ⌝ }
-{
-    let yellow = sheet.track_yellow as u64;
-    let red = sheet.track_red as u64;
-    let worked = lines::worksheet(sheet);
-    let answer = worked.answer;
-    let t = Lengths {
-        l03: rules::ticks(worked.lines.l03),
-        l51: rules::ticks(worked.lines.l51),
-        track_yellow: yellow,
-        track_red: red,
-    };
-    Measured {
-        accepted: sheet::is_fine(answer),
-        lengths: t,
-    }
-}
-
 fn fresh(sheet: Sheet) -> Unit
     ensures { λ r. ⌜ r ≡ fresh sheet ⌝ }
 {
@@ -58,13 +32,13 @@ fn fresh(sheet: Sheet) -> Unit
 fn started(sheet: Sheet, answer: Answer) -> Reply
     ensures { λ r. ⌜ r ≡ started sheet answer ⌝ }
 {
-    if sheet::is_fine(answer) {
+    if answers::is_fine(answer) {
         Reply {
             unit: fresh(sheet),
             answer: answer,
         }
     } else {
-        let zero = sheet::zero_sheet();
+        let zero = zeros::zero_sheet();
         Reply {
             unit: fresh(zero),
             answer: answer,
@@ -76,7 +50,7 @@ fn started(sheet: Sheet, answer: Answer) -> Reply
 pub fn start(sheet: Sheet) -> Reply
     ensures { λ r. ⌜ r ≡ startOf sheet ⌝ }
 {
-    let worked = lines::worksheet(sheet);
-    let answer = worked.answer;
+    let m = measured::measure(sheet);
+    let answer = m.answer;
     started(sheet, answer)
 }

@@ -1,40 +1,19 @@
 // One tick of the unit, many of them, and the loader.
 ghost use mathlib.Core.Path.{_≡_};
 ghost use lib.ListN.{replicate};
-ghost use Rattle.sheet.specs.Refusals.{orElse, unless};
 ghost use Rattle.stage.specs.declared.Command.the-variants.{None};
 ghost use Rattle.unit.specs.Runs.{tick, run, passing};
-ghost use Rattle.unit.specs.Unit.{nowOf, holding, fitsIn, fitsWith, fits, replied, tickOf, resting, newer, placeAnswer, loadAnswer, loaded, loadOf};
-use super::Measured;
+ghost use Rattle.unit.specs.Unit.{nowOf, holding, fitsIn, fitsWith, fits, replied, tickOf, resting, placeAnswer, loadAnswer, loaded, loadOf};
 use super::Reply;
 use super::Unit;
 use flow::Now;
 use flow::Ticked;
+use measured::Measured;
 use sheet::Answer;
 use sheet::Refusal;
 use sheet::Sheet;
 use stage::Command;
 use stage::Lengths;
-
-// A refusal without a line, unless the test holds.
-fn refuse_unless(holds: bool, refusal: Refusal) -> Answer
-    ensures { λ r. ⌜ r ≡ unless holds refusal 0 ⌝ }
-{
-    if holds {
-        Answer::Fine
-    } else {
-        Answer::Refused(refusal, 0)
-    }
-}
-
-fn or_else(first: Answer, second: Answer) -> Answer
-    ensures { λ r. ⌜ r ≡ orElse first second ⌝ }
-{
-    match first {
-        Answer::Fine => second,
-        Answer::Refused(_, _) => first,
-    }
-}
 
 fn holding(sheet: Sheet, now: Now) -> Unit
     ensures { λ r. ⌜ r ≡ holding sheet now ⌝ }
@@ -53,7 +32,7 @@ fn replied(sheet: Sheet, ticked: Ticked) -> Reply
     let now = ticked.now;
     Reply {
         unit: holding(sheet, now),
-        answer: refuse_unless(ticked.allowed, Refusal::CommandNotAllowed),
+        answer: answers::refuse_unless(ticked.allowed, Refusal::CommandNotAllowed, 0),
     }
 }
 
@@ -64,18 +43,12 @@ fn passing(t: Lengths, sheet: Sheet, call: bool, count: u32, start: Now) -> Now
     let mut now = start;
     let mut i: u32 = 0;
     while i < count {
-        let next = now.tick(t, sheet, Command::None, call);
+        let next = tick::tick(t, sheet, now, Command::None, call);
         let later = next.now;
         now = later;
         i += 1;
     }
     now
-}
-
-fn newer(held: u32, offered: u32) -> bool
-    ensures { λ r. ⌜ r ≡ newer held offered ⌝ }
-{
-    held < offered
 }
 
 impl Unit {
@@ -95,7 +68,7 @@ impl Unit {
         let sheet = self.sheet;
         let stage = self.stage;
         if self.count <= t.l03 {
-            stage::stage_fits(t, sheet, stage)
+            fitness::stage_fits(t, sheet, stage)
         } else {
             false
         }
@@ -105,14 +78,19 @@ impl Unit {
         ensures { λ r. ⌜ r ≡ fitsWith m self ⌝ }
     {
         let t = m.lengths;
-        if m.accepted { self.fits_in(t) } else { false }
+        let answer = m.answer;
+        if answers::is_fine(answer) {
+            self.fits_in(t)
+        } else {
+            false // a refused sheet
+        }
     }
 
     fn fits(self) -> bool
         ensures { λ r. ⌜ r ≡ fits self ⌝ }
     {
         let sheet = self.sheet;
-        self.fits_with(super::measure(sheet))
+        self.fits_with(measured::measure(sheet))
     }
 
     // One tenth of a second, with the command and the call of it.
@@ -120,10 +98,10 @@ impl Unit {
         ensures { λ r. ⌜ r ≡ tickOf self command call ⌝ }
     {
         let sheet = self.sheet;
-        let m = super::measure(sheet);
+        let m = measured::measure(sheet);
         let t = m.lengths;
         if self.fits_with(m) {
-            replied(sheet, self.now().tick(t, sheet, command, call))
+            replied(sheet, tick::tick(t, sheet, self.now(), command, call))
         } else {
             Reply {
                 unit: self, // unchanged
@@ -137,7 +115,7 @@ impl Unit {
         ensures { λ r. ⌜ r ≡ run self (replicate count (tick None call)) ⌝ }
     {
         let sheet = self.sheet;
-        let m = super::measure(sheet);
+        let m = measured::measure(sheet);
         let t = m.lengths;
         if self.fits_with(m) {
             holding(sheet, passing(t, sheet, call, count, self.now()))
@@ -150,7 +128,7 @@ impl Unit {
         ensures { λ r. ⌜ r ≡ resting self ⌝ }
     {
         let stage = self.stage;
-        if stage::is_track_green(stage) {
+        if normal::is_track_green(stage) {
             self.count == 0
         } else {
             false
@@ -160,26 +138,23 @@ impl Unit {
     fn place_answer(self, sheet: Sheet) -> Answer
         ensures { λ r. ⌜ r ≡ placeAnswer self sheet ⌝ }
     {
-        let place = refuse_unless(self.resting(), Refusal::LoadNotNow);
-        let newer = newer(self.sheet.issue, sheet.issue);
-        let issue = refuse_unless(newer, Refusal::IssueNotNewer);
-        or_else(place, issue)
+        loading::place_answer(self.resting(), self.sheet.issue, sheet.issue)
     }
 
     fn load_answer(self, sheet: Sheet) -> Answer
         ensures { λ r. ⌜ r ≡ loadAnswer self sheet ⌝ }
     {
-        let unfit = refuse_unless(self.fits(), Refusal::UnitUnfit);
-        let worked = lines::worksheet(sheet);
-        let own = worked.answer;
-        let later = or_else(own, self.place_answer(sheet));
-        or_else(unfit, later)
+        let fits = self.fits();
+        let offered = measured::measure(sheet);
+        let own = offered.answer;
+        let place = self.place_answer(sheet);
+        loading::load_answer(fits, own, place)
     }
 
     fn loaded(self, sheet: Sheet, answer: Answer) -> Reply
         ensures { λ r. ⌜ r ≡ loaded self sheet answer ⌝ }
     {
-        if sheet::is_fine(answer) {
+        if answers::is_fine(answer) {
             Reply {
                 unit: super::fresh(sheet),
                 answer: answer,

@@ -1,25 +1,26 @@
 // What is printed of a sheet: a line with the answer of the worksheet, and one with the writer's and what became of the lent bytes.
-ghost use Prim.Native.Nat.{_≤_};
 use libc::STDOUT_FILENO;
 use lines::Lines;
 use sheet::Answer;
 use sheet::Sheet;
 
-// The paper's sheet as its text.
-const TEXT: [u8; 259] =
-    *b"issue=12\nvehicle=wb50\ngrade=0\nl01=0\nl02=2\nphases=2\nphase=2,50,0,40,15,0,0,0\nphase=4,40,0,35,20,70,100,1\ntrack=40,20\nl18=60\nl19=41\nl20=55\nl28=40\nl30=200\nl31=10\nl33=270\nl37=125\nl39=150\nl47=60\nl56=30\nl57=120\nl58=40\npoints=3\npoint=0,0\npoint=100,140\npoint=400,320\n";
+// The paper's sheet as its text in 300 lent bytes, and the bytes beyond it as they were.
+pub(crate) const TEXT: [u8; 300] =
+    *b"issue=12\nvehicle=wb50\ngrade=0\nl01=0\nl02=2\nphases=2\nphase=2,50,0,40,15,0,0,0\nphase=4,40,0,35,20,70,100,1\ntrack=40,20\nl18=60\nl19=41\nl20=55\nl28=40\nl30=200\nl31=10\nl33=270\nl37=125\nl39=150\nl47=60\nl56=30\nl57=120\nl58=40\npoints=3\npoint=0,0\npoint=100,140\npoint=400,320\n.........................................";
 
 // What every lent byte is before.
-const BEFORE: u8 = 7;
+const BEFORE: u8 = b'.';
 
-fn print_answer(answer: Answer) {
-    io::print_decimal(STDOUT_FILENO, sheet::answer_number(answer) as u64);
+fn print_answer(name: &[u8], by: &[u8], answer: Answer) {
+    io::write_all(STDOUT_FILENO, name);
+    io::write_all(STDOUT_FILENO, by);
+    io::print_decimal(STDOUT_FILENO, answers::answer_number(answer) as u64);
     io::write_all(STDOUT_FILENO, b",");
-    io::print_decimal(STDOUT_FILENO, sheet::answer_line(answer) as u64);
+    io::print_decimal(STDOUT_FILENO, answers::answer_line(answer) as u64);
 }
 
 fn all_zero(lines: Lines) -> bool {
-    let all = lines::in_order(lines);
+    let all = listing::in_order(lines);
     let mut i: usize = 0;
     while i < 61 {
         if all[i] != 0 {
@@ -30,24 +31,10 @@ fn all_zero(lines: Lines) -> bool {
     true
 }
 
-// The bytes from a place on are as before.
-fn untouched(out: &[u8; 300], from: usize) -> bool {
-    let mut i = from;
-    while i < 300 {
-        if out[i] != BEFORE {
-            return false;
-        }
-        i += 1;
-    }
-    true
-}
-
-// The bytes begin with the paper's text.
-fn begins(out: &[u8; 300]) -> bool {
-    let text = TEXT;
+fn same(out: &[u8; 300], expected: &[u8; 300]) -> bool {
     let mut i: usize = 0;
-    while i < 259 {
-        if out[i] != text[i] {
+    while i < 300 {
+        if out[i] != expected[i] {
             return false;
         }
         i += 1;
@@ -55,28 +42,22 @@ fn begins(out: &[u8; 300]) -> bool {
     true
 }
 
-fn print_bytes(out: &[u8; 300], length: usize) {
-    if !untouched(out, length) {
-        io::write_all(STDOUT_FILENO, b", bytes beyond changed\n");
-        return;
-    }
-    if length == 0 {
+fn print_bytes(out: &[u8; 300]) {
+    if same(out, &[BEFORE; 300]) {
         io::write_all(STDOUT_FILENO, b", no byte changed\n");
         return;
     }
-    if begins(out) {
+    if same(out, &TEXT) {
         io::write_all(STDOUT_FILENO, b", the text and no byte beyond\n");
         return;
     }
-    io::write_all(STDOUT_FILENO, b", another text\n");
+    io::write_all(STDOUT_FILENO, b", other bytes\n");
 }
 
-fn worked(name: &[u8], sheet: Sheet) {
-    let worked = lines::worksheet(sheet);
+pub(crate) fn worked(name: &[u8], sheet: Sheet) {
+    let worked = form::worksheet(sheet);
     let answer = worked.answer;
-    io::write_all(STDOUT_FILENO, name);
-    io::write_all(STDOUT_FILENO, b": worksheet ");
-    print_answer(answer);
+    print_answer(name, b" worksheet ", answer);
     if all_zero(worked.lines) {
         io::write_all(STDOUT_FILENO, b", zeros\n");
     } else {
@@ -85,23 +66,17 @@ fn worked(name: &[u8], sheet: Sheet) {
 }
 
 // The writer is lent the first `room` of 300 bytes.
-pub(crate) fn written(name: &[u8], sheet: Sheet, room: usize)
-    requires { ⌜ room ≤ 300 ⌝ }
-{
+pub(crate) fn written(name: &[u8], sheet: Sheet, room: u32) {
     let mut out = [BEFORE; 300];
-    let reply = writer::write(sheet, &mut out[0..room]);
-    let answer = reply.answer;
-    io::write_all(STDOUT_FILENO, name);
-    io::write_all(STDOUT_FILENO, b": writer ");
-    print_answer(answer);
-    io::write_all(STDOUT_FILENO, b", length ");
-    io::print_decimal(STDOUT_FILENO, reply.length as u64);
-    print_bytes(&out, reply.length);
-}
-
-pub(crate) fn both(name: &[u8], sheet: Sheet) {
-    worked(name, sheet);
-    written(name, sheet, 300);
+    let lent = room as usize;
+    if lent <= 300 {
+        let reply = writer::write(sheet, &mut out[0..lent]);
+        let answer = reply.answer;
+        print_answer(name, b" writer ", answer);
+        io::write_all(STDOUT_FILENO, b", length ");
+        io::print_decimal(STDOUT_FILENO, reply.length as u64);
+        print_bytes(&out);
+    }
 }
 
 // The text itself.

@@ -4,7 +4,7 @@ use mathlib.Core.Path.{_≡_, refl, sym, ap, _∙_}
 use mathlib.Core.List.{List, [], _++_, append-assoc}
 use mathlib.Core.Bool.{true, false}
 use native.Mathlib.Omega.{arith}
-use lib.ListN.{length, getD, drop}
+use lib.ListN.{length, getD}
 use lib.Seq.{sets-eq}
 use lib.Dec.{leb}
 use borrow.Author.Tests.{le-leb, lt-leb}
@@ -19,7 +19,7 @@ use Rattle.sheet.proofs.Answers.{fine-or, bad-or, holds, fails}
 use Rattle.rows.specs.Table.{rowCount, present}
 use Rattle.rows.specs.Marks.{markOf}
 use Rattle.numbers.specs.Flat.{flatOf}
-use Rattle.accept.specs.Whole.{acceptOf}
+use Rattle.faults.specs.Whole.{acceptOf}
 use Rattle.writer.specs.Text.{fieldText, fieldsText, rowText, hereText, textFrom, textOf}
 use Rattle.writer.specs.Write.{Put, answerTo, writtenOf, bytesOf}
 use Rattle.writer.specs.declared.Written.{Written}
@@ -85,5 +85,5 @@ module _ (s : Sheet) (b : List ℕ) (a : Answer) (accepted : a ≡ acceptOf s) w
         let z : 0 + length (textOf s) ≡ length (textOf s) = omega arith in
         let g = ap isFine (room ∙ holds _ _ _ (le-leb _ _ fits)) in (
           pick-yes _ _ _ _ g (λ i. record { answer = Fine; length = (q .place ∙ z) i }),
-          pick-yes _ _ _ _ g (q .bytes ∙ sets-eq (textOf s) b 0 (omega arith) ∙ ap (λ (k : ℕ). textOf s ++ drop k b) z),
+          pick-yes _ _ _ _ g (rw (q .bytes, sets-eq (textOf s) b 0 (omega arith), z) refl),
         )

@@ -33,8 +33,8 @@ pub put-same : {old new : List ℕ} {at r : ℕ} {t u : List ℕ} → t ≡ u �
 put-same e p = rw (← e) p
 
 -- stored where there is no byte
-pub put-none : {new : List ℕ} {at r : ℕ} {t : List ℕ} → Put [] new at r t → new ≡ []
-put-none {new} p = none new (put-length p)
+pub put-none : {old new : List ℕ} {at r : ℕ} {t : List ℕ} → Put old new at r t → length old ≡ 0 → new ≡ []
+put-none {new = new} p e = none new (put-length p ∙ e)
   where
     none : (l : List ℕ) → length l ≡ 0 → l ≡ []
     none [] e = refl

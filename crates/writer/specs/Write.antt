@@ -11,7 +11,7 @@ use Rattle.sheet.specs.declared.Answer.{Answer}
 use Rattle.sheet.specs.declared.Answer.the-variants.{Fine}
 use Rattle.sheet.specs.declared.Refusal.the-variants.{NoRoom}
 use Rattle.sheet.specs.Refusals.{isFine, orElse, unless}
-use Rattle.accept.specs.Whole.{acceptOf}
+use Rattle.faults.specs.Whole.{acceptOf}
 use Rattle.writer.specs.declared.Written.{Written}
 use Rattle.writer.specs.Text.{textOf}
 

@@ -177,8 +177,8 @@ pub fn write(sheet: Sheet, out: &mut [u8]) -> Written
     ensures { λ r. ⌜ (r ≡ writtenOf sheet (length (now (out .entry)))) × (now (out .exit) ≡ bytesOf sheet (now (out .entry))) ⌝ }
 {
     let answer = accept::accept(sheet);
-    if sheet::is_fine(answer) {
-        let numbers = numbers::flat(sheet);
+    if answers::is_fine(answer) {
+        let numbers = to_numbers::flat(sheet);
         let needed = put_lines(&mut out[0..0], &numbers);
         if out.len() < needed {
             return Written {

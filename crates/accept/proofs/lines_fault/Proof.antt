@@ -3,8 +3,8 @@ use mathlib.Core.Path.{_≡_, _∙_, sym, ap}
 use Prim.Native.Nat.{_+_, _-_, _≤_}
 use Rattle.sheet.specs.Refusals.{isFine}
 use Rattle.rows.specs.Table.{rowCount}
-use Rattle.accept.specs.Lines.{faultFrom}
-use Rattle.accept.proofs.Along.{absent, fine-row, bad-row, no-more}
+use Rattle.faults.specs.Lines.{faultFrom}
+use Rattle.faults.proofs.Along.{absent, fine-row, bad-row, no-more}
 use borrow.Author.Needs.{needs}
 use native.Mathlib.Omega.{arith}
 use Rattle.accept.proofs.lines_fault.Statement.{statement}

@@ -1,4 +1,4 @@
--- `handed_over::all` is safe and ends: a turn for each byte. Assumes nothing.
+-- `handed_over::all` is safe and ends: no more lines than bytes. Assumes nothing.
 use Prim.Native.Nat.{_-_, _≤_}
 use lib.ListN.{length}
 use borrow.Author.Needs.{needs}
@@ -6,22 +6,25 @@ use Rattle.handed_over.proofs.all.Statement.{statement}
 use Rattle.handed_over.proofs.all.Tie as tie
 
 abbrev Inv-loop : tie.InvT-loop
-Inv-loop s row₀ i₀ row i = i ≤ length s
+Inv-loop s site at₀ i₀ at i = i ≤ length s
 
 abbrev μ-loop : tie.MeasureT-loop
-μ-loop s row₀ i₀ row i = length s - i
+μ-loop s site at₀ i₀ at i = length s - i
 
-begun-requires : tie.Need-begun-requires Inv-loop μ-loop
-begun-requires c κs = search needs
+numbers-requires : tie.Need-numbers-requires Inv-loop μ-loop
+numbers-requires c κs = search needs
+
+after-requires : tie.Need-after-requires Inv-loop μ-loop
+after-requires c κs = search needs
 
 loop-holds : tie.Need-loop-holds Inv-loop μ-loop
 loop-holds c = search needs
 
-shared-slice-read-taken : tie.Need-shared-slice-read-taken Inv-loop μ-loop
-shared-slice-read-taken c = search needs
+line-requires : tie.Need-line-requires Inv-loop μ-loop
+line-requires c κs = search needs
 
-taken-requires : tie.Need-taken-requires Inv-loop μ-loop
-taken-requires c κs = search needs
+after-requires-2 : tie.Need-after-requires-2 Inv-loop μ-loop
+after-requires-2 c κs = search needs
 
 add-i : tie.Need-add-i Inv-loop μ-loop
 add-i c = search needs
@@ -41,10 +44,11 @@ all-spec =
     (tie.spec
     Inv-loop
     μ-loop
-    begun-requires
+    numbers-requires
+    after-requires
     loop-holds
-    shared-slice-read-taken
-    taken-requires
+    line-requires
+    after-requires-2
     add-i
     loop-less
     loop-again

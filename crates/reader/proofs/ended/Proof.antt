@@ -1,6 +1,8 @@
 -- `reader::ended` meets its contract: a line feed, or a bad line. Assumes nothing.
-use mathlib.Core.Path.{sym, _∙_, refl}
+use mathlib.Core.Path.{_≡_, sym, _∙_, refl}
 use Rattle.units.proofs.Steps.{pick-yes, pick-not}
+use Rattle.rows.specs.Marks.{lineFeed}
+use Rattle.figures.specs.Figures.{afterAt}
 use borrow.Author.Needs.{needs}
 use Rattle.reader.proofs.ended.Statement.{statement}
 use Rattle.reader.proofs.ended.Tie as tie
@@ -19,11 +21,13 @@ enum-known-q c = search needs
 
 returns : tie.Need-returns
 returns c =
-    λ v. pick-yes _ _ _ _ (c .before .before .before .before .if1 .taken) (rw (sym (c .before .before .after .ensures) ∙ c .enum-told .given .1) refl)
+    let fed : c .before .before .after .result ≡ afterAt (c .before .before .before .before .before .before .args .s .now) (c .before .before .before .before .before .before .args .found .next) lineFeed = rw (c .before .before .after .ensures) refl in
+    λ v. pick-yes _ _ _ _ (c .before .before .before .before .if1 .taken) (rw (sym fed ∙ c .enum-told .given .1) refl)
 
 returns-2 : tie.Need-returns-2
 returns-2 c =
-    λ v. pick-yes _ _ _ _ (c .before .before .before .before .before .if1 .taken) (rw (sym (c .before .before .before .after .ensures) ∙ c .before .q .given .1) refl)
+    let fed : c .before .before .before .after .result ≡ afterAt (c .before .before .before .before .before .before .before .args .s .now) (c .before .before .before .before .before .before .before .args .found .next) lineFeed = rw (c .before .before .before .after .ensures) refl in
+    λ v. pick-yes _ _ _ _ (c .before .before .before .before .before .if1 .taken) (rw (sym fed ∙ c .before .q .given .1) refl)
 
 returns-3 : tie.Need-returns-3
 returns-3 c =

@@ -4,7 +4,7 @@ use mathlib.Core.List.{List}
 use Prim.Native.Nat.{ℕ}
 use Rattle.rows.proofs.Tables.{place-room}
 use Rattle.rows.proofs.Keys.{facts-key, facts-short, facts-form}
-use Rattle.reader.specs.Figures.{afterAt}
+use Rattle.figures.specs.Figures.{afterAt}
 use Rattle.reader.specs.Line.{Taken, fields, ended, lineAt}
 use native.Mathlib.Omega.{arith}
 use borrow.Author.Needs.{needs}

@@ -3,7 +3,7 @@ use mathlib.Core.Path.{sym, _∙_, ap}
 use Rattle.sheet.proofs.Answers.{fine-or, bad-or}
 use Rattle.sheet.specs.declared.Answer.{Answer}
 use Rattle.numbers.specs.Flat.{sheetOf}
-use Rattle.accept.specs.Whole.{wholeFault}
+use Rattle.faults.specs.Whole.{wholeFault}
 use Rattle.reader.specs.Read.{reply, readOf}
 use Rattle.reader.proofs.Cases.{reply-bad}
 use borrow.Author.Needs.{needs}

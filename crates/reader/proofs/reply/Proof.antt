@@ -1,7 +1,7 @@
 -- `reader::reply` meets its contract: by the answer. Assumes nothing.
 use Rattle.units.proofs.Steps.{steps, pick-not}
 use borrow.Author.Needs.{needs}
-use mathlib.Core.Path.{sym, _∙_}
+use mathlib.Core.Path.{refl, sym, _∙_}
 use Rattle.reader.specs.Read.{reply}
 use Rattle.reader.proofs.reply.Statement.{statement}
 use Rattle.reader.proofs.reply.Tie as tie
@@ -20,7 +20,7 @@ returns c =
 returns-2 : tie.Need-returns-2
 unfolding reply
 returns-2 c =
-    pick-not _ _ _ _ (sym (c .before .before .is-fine .ensures) ∙ c .before .if1 .left) cc
+    pick-not _ _ _ _ (sym (c .before .before .is-fine .ensures) ∙ c .before .if1 .left) (rw (c .zero-sheet .ensures) refl)
 
 pub reply-spec : {M : Type 1} → statement M
 reply-spec = tie.close (tie.spec is-fine-requires zero-sheet-requires returns returns-2)

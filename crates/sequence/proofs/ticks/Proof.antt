@@ -5,22 +5,16 @@ use Rattle.sequence.proofs.ticks.Statement.{statement}
 use Rattle.sequence.proofs.ticks.Tie as tie
 
 abbrev Inv-loop : tie.InvT-loop
-Inv-loop from command call count unit₀ tick₀ before₀ i₀ unit tick before i = i ≤ count
+Inv-loop from command call count unit₀ tick₀ i₀ unit tick i = i ≤ count
 
 abbrev μ-loop : tie.MeasureT-loop
-μ-loop from command call count unit₀ tick₀ before₀ i₀ unit tick before i = count - i
-
-of-requires : tie.Need-of-requires Inv-loop μ-loop
-of-requires c κs = search needs
+μ-loop from command call count unit₀ tick₀ i₀ unit tick i = count - i
 
 loop-holds : tie.Need-loop-holds Inv-loop μ-loop
 loop-holds c = search needs
 
 tick-requires : tie.Need-tick-requires Inv-loop μ-loop
 tick-requires c κs = search needs
-
-of-requires-2 : tie.Need-of-requires-2 Inv-loop μ-loop
-of-requires-2 c κs = search needs
 
 wrapping-add-u64-requires : tie.Need-wrapping-add-u64-requires Inv-loop μ-loop
 wrapping-add-u64-requires c κs = search needs
@@ -46,10 +40,8 @@ ticks-spec =
     (tie.spec
     Inv-loop
     μ-loop
-    of-requires
     loop-holds
     tick-requires
-    of-requires-2
     wrapping-add-u64-requires
     print-tick-requires
     add-i

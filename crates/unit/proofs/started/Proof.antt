@@ -1,5 +1,5 @@
 -- `unit::started` meets its contract, branch by branch. Assumes nothing.
-use mathlib.Core.Path.{sym, _∙_}
+use mathlib.Core.Path.{refl, sym, _∙_}
 use Rattle.units.specs.Numbers.{pick}
 use Rattle.unit.specs.Unit.{started}
 use borrow.Author.Needs.{needs}
@@ -21,12 +21,12 @@ fresh-requires-2 c κs = search needs
 returns : tie.Need-returns
 unfolding started pick
 returns c =
-    rw (sym (c .before .before .is-fine .ensures) ∙ c .before .if1 .taken) (cc)
+    rw (sym (c .before .before .is-fine .ensures) ∙ c .before .if1 .taken, c .fresh .ensures) refl
 
 returns-2 : tie.Need-returns-2
 unfolding started pick
 returns-2 c =
-    rw (sym (c .before .before .before .is-fine .ensures) ∙ c .before .before .if1 .left) (cc)
+    rw (sym (c .before .before .before .is-fine .ensures) ∙ c .before .before .if1 .left, c .fresh2 .ensures, c .before .zero-sheet .ensures) refl
 
 pub started-spec : {M : Type 1} → statement M
 started-spec =

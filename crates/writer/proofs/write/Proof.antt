@@ -1,5 +1,5 @@
 -- `writer::write` meets its contract: refused by the values, for want of room, or written. Assumes nothing.
-use mathlib.Core.Path.{sym, ap, _∙_}
+use mathlib.Core.Path.{sym, ap, _∙_, refl}
 use mathlib.Core.List.{List, _++_}
 use Prim.Native.Nat.{ℕ}
 use lib.ListN.{length}
@@ -33,11 +33,11 @@ put-lines-requires c κs = search needs
 
 same-length : tie.Need-same-length
 same-length c =
-    ap length (ap (λ (l : List ℕ). l ++ c .before .before .before .before .before .before .before .before .before .before .before .args .out .now) (put-none (c .before .before .before .put-lines .ensures)))
+    ap length (ap (λ (l : List ℕ). l ++ c .before .before .before .before .before .before .before .before .before .before .before .args .out .now) (put-none (c .before .before .before .put-lines .ensures) refl))
 
 returns : tie.Need-returns
 returns c =
-    let same = ap (λ (l : List ℕ). l ++ c .before .before .before .before .before .before .before .before .before .before .before .args .out .now) (put-none (c .before .before .before .put-lines .ensures)) in
+    let same = ap (λ (l : List ℕ). l ++ c .before .before .before .before .before .before .before .before .before .before .before .args .out .now) (put-none (c .before .before .before .put-lines .ensures) refl) in
     let done = write-long (c .before .before .before .before .before .before .before .before .before .before .before .args .sheet) (c .before .before .before .before .before .before .before .before .before .before .before .args .out .now) (c .before .before .before .before .before .before .before .before .before .accept .result) (c .before .before .before .before .before .before .before .before .before .accept .ensures) (c .before .before .before .before .before .before .flat .result) (c .before .before .before .before .before .before .flat .ensures) (sym (c .before .before .before .before .before .before .before .before .is-fine .ensures) ∙ c .before .before .before .before .before .before .before .if1 .taken) (c .before .before .before .put-lines .ensures) (omega (arith, ap length same)) in
     (done .0, same ∙ done .1)
 
@@ -46,11 +46,11 @@ put-lines-requires-2 c κs = search needs
 
 same-length-2 : tie.Need-same-length-2
 same-length-2 c =
-    put-length (c .before .before .put-lines2 .ensures) ∙ ap length (ap (λ (l : List ℕ). l ++ c .before .before .before .before .before .before .before .before .before .before .before .before .before .before .before .before .args .out .now) (put-none (c .before .before .before .before .before .before .before .before .put-lines .ensures)))
+    put-length (c .before .before .put-lines2 .ensures) ∙ ap length (ap (λ (l : List ℕ). l ++ c .before .before .before .before .before .before .before .before .before .before .before .before .before .before .before .before .args .out .now) (put-none (c .before .before .before .before .before .before .before .before .put-lines .ensures) refl))
 
 returns-2 : tie.Need-returns-2
 returns-2 c =
-    let same = ap (λ (l : List ℕ). l ++ c .before .before .before .before .before .before .before .before .before .before .before .before .before .before .before .before .args .out .now) (put-none (c .before .before .before .before .before .before .before .before .put-lines .ensures)) in
+    let same = ap (λ (l : List ℕ). l ++ c .before .before .before .before .before .before .before .before .before .before .before .before .before .before .before .before .args .out .now) (put-none (c .before .before .before .before .before .before .before .before .put-lines .ensures) refl) in
     write-done (c .before .before .before .before .before .before .before .before .before .before .before .before .before .before .before .before .args .sheet) (c .before .before .before .before .before .before .before .before .before .before .before .before .before .before .before .before .args .out .now) (c .before .before .before .before .before .before .before .before .before .before .before .before .before .before .accept .result) (c .before .before .before .before .before .before .before .before .before .before .before .before .before .before .accept .ensures) (c .before .before .before .before .before .before .before .before .before .before .before .flat .result) (c .before .before .before .before .before .before .before .before .before .before .before .flat .ensures) (sym (c .before .before .before .before .before .before .before .before .before .before .before .before .before .is-fine .ensures) ∙ c .before .before .before .before .before .before .before .before .before .before .before .before .if1 .taken) (c .before .before .before .before .before .before .before .before .put-lines .ensures) (omega (arith, ap length same)) (rw same at (c .before .before .put-lines2 .ensures))
 
 returns-3 : tie.Need-returns-3

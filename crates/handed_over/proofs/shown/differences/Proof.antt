@@ -1,30 +1,30 @@
 -- `handed_over::shown::differences` is safe and ends: a turn for each number. Assumes nothing.
 use Prim.Native.Nat.{_-_, _≤_}
-use lib.ListN.{length}
 use borrow.Author.Needs.{needs}
+use Rattle.rows.specs.Table.{numberCount}
 use Rattle.handed_over.proofs.shown.differences.Statement.{statement}
 use Rattle.handed_over.proofs.shown.differences.Tie as tie
 
 abbrev Inv-loop : tie.InvT-loop
-Inv-loop numbers site i₀ t4 i = i ≤ length numbers
+Inv-loop numbers site i₀ t5 t6 i = i ≤ numberCount
 
 abbrev μ-loop : tie.MeasureT-loop
-μ-loop numbers site i₀ t4 i = length numbers - i
+μ-loop numbers site i₀ t5 t6 i = numberCount - i
 
 loop-holds : tie.Need-loop-holds Inv-loop μ-loop
 loop-holds c = search needs
 
-mul-if2 : tie.Need-mul-if2 Inv-loop μ-loop
-mul-if2 c = search needs
+mul-n : tie.Need-mul-n Inv-loop μ-loop
+mul-n c = search needs
 
-shared-slice-read-if2 : tie.Need-shared-slice-read-if2 Inv-loop μ-loop
-shared-slice-read-if2 c = search needs
+element-copy-out-n : tie.Need-element-copy-out-n Inv-loop μ-loop
+element-copy-out-n c = search needs
 
-mul-if2-2 : tie.Need-mul-if2-2 Inv-loop μ-loop
-mul-if2-2 c = search needs
+mul-if1 : tie.Need-mul-if1 Inv-loop μ-loop
+mul-if1 c = search needs
 
-shared-slice-read-if2-2 : tie.Need-shared-slice-read-if2-2 Inv-loop μ-loop
-shared-slice-read-if2-2 c = search needs
+element-copy-out-if1 : tie.Need-element-copy-out-if1 Inv-loop μ-loop
+element-copy-out-if1 c = search needs
 
 slice-aggregate-number : tie.Need-slice-aggregate-number Inv-loop μ-loop
 slice-aggregate-number c = search needs
@@ -32,14 +32,14 @@ slice-aggregate-number c = search needs
 number-requires : tie.Need-number-requires Inv-loop μ-loop
 number-requires c κs = search needs
 
-mul-each : tie.Need-mul-each Inv-loop μ-loop
-mul-each c = search needs
+slice-aggregate-number-2 : tie.Need-slice-aggregate-number-2 Inv-loop μ-loop
+slice-aggregate-number-2 c = search needs
 
-shared-slice-read-each : tie.Need-shared-slice-read-each Inv-loop μ-loop
-shared-slice-read-each c = search needs
+wide-requires : tie.Need-wide-requires Inv-loop μ-loop
+wide-requires c κs = search needs
 
-each-requires : tie.Need-each-requires Inv-loop μ-loop
-each-requires c κs = search needs
+number-requires-2 : tie.Need-number-requires-2 Inv-loop μ-loop
+number-requires-2 c κs = search needs
 
 add-i : tie.Need-add-i Inv-loop μ-loop
 add-i c = search needs
@@ -60,15 +60,15 @@ differences-spec =
     Inv-loop
     μ-loop
     loop-holds
-    mul-if2
-    shared-slice-read-if2
-    mul-if2-2
-    shared-slice-read-if2-2
+    mul-n
+    element-copy-out-n
+    mul-if1
+    element-copy-out-if1
     slice-aggregate-number
     number-requires
-    mul-each
-    shared-slice-read-each
-    each-requires
+    slice-aggregate-number-2
+    wide-requires
+    number-requires-2
     add-i
     loop-less
     loop-again

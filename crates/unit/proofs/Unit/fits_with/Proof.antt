@@ -5,6 +5,9 @@ use borrow.Author.Needs.{needs}
 use Rattle.unit.proofs.Unit.fits_with.Statement.{statement}
 use Rattle.unit.proofs.Unit.fits_with.Tie as tie
 
+is-fine-requires : tie.Need-is-fine-requires
+is-fine-requires c κs = search needs
+
 fits-in-requires : tie.Need-fits-in-requires
 fits-in-requires c κs = search needs
 
@@ -17,4 +20,4 @@ unfolding fitsWith
 returns-2 c = search steps
 
 pub fits-with-spec : {M : Type 1} → statement M
-fits-with-spec = tie.close (tie.spec fits-in-requires returns returns-2)
+fits-with-spec = tie.close (tie.spec is-fine-requires fits-in-requires returns returns-2)

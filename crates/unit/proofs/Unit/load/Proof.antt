@@ -1,4 +1,5 @@
 -- `unit::Unit::load` meets its contract: a composition of calls, each replaced by what it ensures. Assumes nothing.
+use mathlib.Core.Path.{refl}
 use borrow.Author.Needs.{needs}
 use Rattle.unit.proofs.Unit.load.Statement.{statement}
 use Rattle.unit.proofs.Unit.load.Tie as tie
@@ -10,7 +11,7 @@ loaded-requires : tie.Need-loaded-requires
 loaded-requires c κs = search needs
 
 returns : tie.Need-returns
-returns c = cc
+returns c = rw (c .loaded .ensures, c .before .load-answer .ensures) refl
 
 pub load-spec : {M : Type 1} → statement M
 load-spec = tie.close (tie.spec load-answer-requires loaded-requires returns)

@@ -1,0 +1,65 @@
+// The acceleration time: the level time by the points, times the factor.
+ghost use mathlib.Core.Path.{_≡_};
+ghost use Prim.Native.Nat.{_≤_};
+ghost use lib.ListN.{take};
+ghost use Rattle.curve.specs.Curve.{accelerationOf, betweenOf, gradedOf, levelOf};
+use factor::Fraction;
+use sheet::Point;
+use sheet::Vehicle;
+use units::Feet;
+use units::Tenths;
+
+// On the straight line between two points, up to a tenth.
+fn between(p: Point, q: Point, distance: Feet) -> Tenths
+    requires { ⌜ distance .0 ≤ q .feet ⌝ }
+    ensures { λ r. ⌜ (r ≡ betweenOf p q distance) × (r .0 ≤ 4294967295) ⌝ }
+{
+    let rise = units::less(q.tenths as u64, p.tenths as u64);
+    let run = units::less(distance.0, p.feet as u64);
+    let width = units::less(q.feet as u64, p.feet as u64);
+    let part = units::div_up(rise * run, width);
+    Tenths(p.tenths as u64 + part)
+}
+
+// The level time, by the two points around the distance; a point's time has 32 bits, and so has this.
+fn level_time(points: [Point; 16], count: u32, distance: Feet) -> Tenths
+    ensures { λ r. ⌜ (r ≡ levelOf (take count points) distance) × (r .0 ≤ 4294967295) ⌝ }
+{
+    let n = units::smaller(count as u64, 16) as usize;
+    if n == 0 {
+        return Tenths(0);
+    }
+    let mut p = points[0];
+    let mut i: usize = 1;
+    while i < n {
+        let q = points[i];
+        if distance.0 <= q.feet as u64 {
+            return between(p, q, distance);
+        }
+        p = q;
+        i += 1;
+    }
+    Tenths(p.tenths as u64)
+}
+
+// A level time on a grade: times the factor, taken up.
+fn graded(factor: Fraction, time: Tenths) -> Tenths
+    requires { ⌜ (time .0 ≤ 4294967295) × (factor .over ≤ 100000) ⌝ }
+    ensures { λ r. ⌜ r ≡ gradedOf factor time ⌝ }
+{
+    Tenths(units::div_up(time.0 * factor.over, factor.under))
+}
+
+// The time to accelerate over a distance, on the sheet's one grade.
+pub fn acceleration(
+    points: [Point; 16],
+    count: u32,
+    vehicle: Vehicle,
+    grade: i16,
+    distance: Feet,
+) -> Tenths
+    ensures { λ r. ⌜ r ≡ accelerationOf (take count points) vehicle grade distance ⌝ }
+{
+    let time = level_time(points, count, distance);
+    graded(grade_factor::factor(vehicle, grade, distance), time)
+}

@@ -1,0 +1,6 @@
+pub mod Along
+pub mod Rows
+pub mod Rules
+pub mod Sound
+pub mod Accepted
+pub mod First

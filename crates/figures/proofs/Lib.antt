@@ -1,0 +1,4 @@
+pub mod Cases
+pub mod Small
+pub mod Promised
+pub mod Fixed

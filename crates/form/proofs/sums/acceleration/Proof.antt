@@ -1,0 +1,23 @@
+-- `form::sums::acceleration` meets its contract: the grade that is passed on is the sheet's. Assumes nothing.
+use borrow.Author.Needs.{needs}
+use mathlib.Core.Path.{_∙_, ap}
+use lib.IntN.{ℤ}
+use lib.ListN.{take}
+use mir.Syntax.{w16}
+use mir.Val.{SFits}
+use mir.Facts.{toZ-ofZ}
+use Rattle.curve.specs.Curve.{accelerationOf}
+use Rattle.form.proofs.sums.acceleration.Statement.{statement}
+use Rattle.form.proofs.sums.acceleration.Tie as tie
+
+acceleration-requires : tie.Need-acceleration-requires
+acceleration-requires c κs = search needs
+
+returns : tie.Need-returns
+returns c =
+    let s = c .before .before .before .args .s in
+    let f : SFits w16 (s .grade) = search needs in
+    c .acceleration .ensures ∙ ap (λ (g : ℤ). accelerationOf (take (s .«point_count») (s .points)) (s .vehicle) g (c .before .before .before .args .d)) (toZ-ofZ f)
+
+pub acceleration-spec : {M : Type 1} → statement M
+acceleration-spec = tie.close (tie.spec acceleration-requires returns)

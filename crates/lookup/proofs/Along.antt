@@ -1,0 +1,28 @@
+-- The search for a phase, along the definition: at a listed phase it ends or goes on, past the last it has found none. Assumes nothing.
+use mathlib.Core.Path.{_≡_, refl, sym, _∙_}
+use mathlib.Core.List.{List, map}
+use Prim.Native.Nat.{ℕ, _+_, _<_, _≤_}
+use lib.ListN.{length, length-map, getD, take, drop}
+use borrow.Author.Tests.{eq-eqb, ne-eqb}
+use Rattle.units.specs.Numbers.{pick}
+use Rattle.units.proofs.Walk.{left-at, none-left}
+use Rattle.sheet.specs.declared.Phase.{Phase}
+use Rattle.stage.specs.declared.Found.the-variants.{At, Missing}
+use Rattle.stage.specs.Listed.{findIn}
+
+-- an array of structs stands in what is known as a list of their parts
+pub mapped : {X Y : Type 0} (f : X → Y) (l : List X) (n : ℕ) → length (map f l) ≡ n → length l ≡ n
+mapped f l n e = sym (length-map l f) ∙ e
+
+module _ (ps : List Phase) (n : ℕ) (fits : n ≤ length ps) (number i : ℕ) where
+  pub ends-here : (d : Phase) → i < n → getD ps i d .number ≡ number → findIn (drop i (take n ps)) number ≡ At (getD ps i d)
+  unfolding findIn pick
+  ends-here d h e = rw (left-at ps n fits d i h) (rw (eq-eqb (getD ps i d .number) number e) refl)
+
+  pub goes-on : (d : Phase) → i < n → (getD ps i d .number ≡ number → ⊥) → findIn (drop i (take n ps)) number ≡ findIn (drop (i + 1) (take n ps)) number
+  unfolding findIn pick
+  goes-on d h e = rw (left-at ps n fits d i h) (rw (ne-eqb (getD ps i d .number) number e) refl)
+
+  pub none-found : n ≤ i → findIn (drop i (take n ps)) number ≡ Missing
+  unfolding findIn
+  none-found h = rw (none-left ps n fits i h) refl

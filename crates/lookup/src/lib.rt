@@ -1,0 +1,54 @@
+// The phases of a sheet by their numbers.
+ghost use mathlib.Core.Path.{_≡_};
+ghost use Rattle.stage.specs.Listed.{listing, findIn, isAt, orZero, listed, phaseOf};
+use sheet::Phase;
+use sheet::Sheet;
+use stage::Found;
+
+// The listed phase of that number.
+fn find(sheet: Sheet, number: u32) -> Found
+    ensures { λ r. ⌜ r ≡ findIn (listing sheet) number ⌝ }
+{
+    let n = units::smaller(sheet.phase_count as u64, 8) as usize;
+    let mut i: usize = 0;
+    while i < n {
+        let p = sheet.phases[i];
+        if p.number == number {
+            return Found::At(p);
+        }
+        i += 1;
+    }
+    Found::Missing
+}
+
+fn is_at(found: Found) -> bool
+    ensures { λ r. ⌜ r ≡ isAt found ⌝ }
+{
+    match found {
+        Found::At(_) => true,
+        Found::Missing => false,
+    }
+}
+
+fn or_zero(found: Found) -> Phase
+    ensures { λ r. ⌜ r ≡ orZero found ⌝ }
+{
+    match found {
+        Found::At(p) => p,
+        Found::Missing => zeros::zero_phase(),
+    }
+}
+
+// Whether a phase has that number.
+pub fn listed(sheet: Sheet, number: u32) -> bool
+    ensures { λ r. ⌜ r ≡ listed sheet number ⌝ }
+{
+    is_at(find(sheet, number))
+}
+
+// The listed phase of that number; a stage that fits has no other.
+pub fn phase_of(sheet: Sheet, number: u32) -> Phase
+    ensures { λ r. ⌜ r ≡ phaseOf sheet number ⌝ }
+{
+    or_zero(find(sheet, number))
+}

@@ -1,0 +1,90 @@
+// Which stages are normal operation.
+ghost use mathlib.Core.Path.{_≡_};
+ghost use Rattle.stage.specs.Shown.{staysNormal, normalBefore, inNormal, isTrackGreen};
+use stage::Place;
+use stage::Stage;
+use stage::Then;
+
+fn stays_normal(then: Then) -> bool
+    ensures { λ r. ⌜ r ≡ staysNormal then ⌝ }
+{
+    match then {
+        Then::ToTrack => true,
+        Then::ToPhase(_) => true,
+        Then::ToClearance => false,
+        Then::ToDwell => false,
+    }
+}
+
+fn normal_before(place: Place, then: Then) -> bool
+    ensures { λ r. ⌜ r ≡ normalBefore place then ⌝ }
+{
+    match place {
+        Place::Normal => stays_normal(then),
+        Place::Train => false,
+    }
+}
+
+// Normal operation, until the transfer begins.
+pub fn in_normal(stage: Stage) -> bool
+    ensures { λ r. ⌜ r ≡ inNormal stage ⌝ }
+{
+    match stage {
+        Stage::TrackGreen => true,
+        Stage::TrackYellow {
+            place,
+            then,
+            spent: _,
+        } => normal_before(place, then),
+        Stage::TrackRed {
+            place,
+            then,
+            spent: _,
+        } => normal_before(place, then),
+        Stage::Open {
+            phase: _,
+            green: _,
+            walk: _,
+        } => true,
+        Stage::Ending {
+            phase: _,
+            then,
+            light: _,
+            walker: _,
+        } => normal_before(Place::Normal, then),
+        Stage::ClearanceGreen { spent: _ } => false, // after the transfer
+        Stage::Dwell => false,
+    }
+}
+
+// Track green in normal operation: the only stage in which a sheet is loaded.
+pub fn is_track_green(stage: Stage) -> bool
+    ensures { λ r. ⌜ r ≡ isTrackGreen stage ⌝ }
+{
+    match stage {
+        Stage::TrackGreen => true,
+        Stage::TrackYellow {
+            place: _,
+            then: _,
+            spent: _,
+        } => false,
+        Stage::TrackRed {
+            place: _,
+            then: _,
+            spent: _,
+        } => false,
+        Stage::Open {
+            phase: _,
+            green: _,
+            walk: _,
+        } => false,
+        Stage::Ending {
+            phase: _,
+            then: _,
+            light: _,
+            walker: _,
+        } => false,
+        Stage::ClearanceGreen { spent: _ } => false, // green on the track, but for a train
+        Stage::Dwell => false, // all red
+    }
+}

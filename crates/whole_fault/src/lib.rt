@@ -1,0 +1,56 @@
+// What is wrong with a sheet on the whole: refusals 7 to 10.
+ghost use mathlib.Core.Path.{_≡_};
+ghost use Prim.Native.Nat.{_+_, _-_};
+ghost use lib.Dec.{leb};
+ghost use lib.ListN.{getD};
+ghost use Rattle.sheet.specs.Zero.{zeroPoint};
+ghost use Rattle.faults.specs.Whole.{leastWarning, wholeFault};
+use sheet::Answer;
+use sheet::Point;
+use sheet::Refusal;
+use sheet::Sheet;
+
+fn warned(l19: u32, l31: u32) -> bool
+    ensures { λ r. ⌜ r ≡ leb (leastWarning l19) l31 ⌝ }
+{
+    let tens = units::div_up(units::less(l19 as u64, 35), 10);
+    10 * tens <= l31 as u64
+}
+
+fn last_feet(points: [Point; 16], count: u32) -> u32
+    ensures { λ r. ⌜ r ≡ getD points (count - 1) zeroPoint .feet ⌝ }
+{
+    if count == 0 {
+        return points[0].feet;
+    }
+    if 16 < count {
+        return 0;
+    }
+    let last = (count - 1) as usize;
+    points[last].feet
+}
+
+fn reached(points: [Point; 16], count: u32, l19: u32, l20: u32, l47: u32) -> bool
+    ensures { λ r. ⌜ r ≡ leb (l19 + l20 + l47) (getD points (count - 1) zeroPoint .feet) ⌝ }
+{
+    let last = last_feet(points, count);
+    l19 as u64 + l20 as u64 + l47 as u64 <= last as u64
+}
+
+// The first of refusals 7 to 10.
+pub fn whole_fault(s: Sheet) -> Answer
+    ensures { λ r. ⌜ r ≡ wholeFault s ⌝ }
+{
+    let points = s.points;
+    let phases = s.phases;
+    let storage = answers::refuse_unless(s.l47 <= s.l18, Refusal::RelocationBeyondStorage, 0);
+    let warning = answers::refuse_unless(warned(s.l19, s.l31), Refusal::WarningTooShort, 0);
+    let far = reached(points, s.point_count, s.l19, s.l20, s.l47);
+    let distance = answers::refuse_unless(far, Refusal::BeyondLastPoint, 0);
+    let fits = right_of_way::track_fits(phases, s.phase_count, s.track_yellow, s.track_red);
+    let track = answers::refuse_unless(fits, Refusal::TrackLongerThanTransfer, 0);
+    answers::or_else(
+        storage,
+        answers::or_else(warning, answers::or_else(distance, track)),
+    )
+}
