@@ -1,6 +1,6 @@
 -- "Each tick adds one to the times running, then takes the command, then counts the call. Stage changes then due are made at once after each of
 -- the three".
-use Prim.Native.Nat.{ℕ}
+use Prim.Native.Nat.{ℕ, zero, suc}
 use mathlib.Core.Bool.{Bool}
 use Rattle.units.specs.Numbers.{pick}
 use Rattle.sheet.specs.declared.Sheet.{Sheet}
@@ -39,3 +39,8 @@ ticked t s now c call =
       now = record { stage = endOf t s c call now; count = countAfter t call (counting t now) (endOf t s c call now) (now .count) };
       allowed = allowed s (afterTimes t s call now) c;
     }
+
+-- that many ticks with no command
+unfoldable pub passing : Lengths → Sheet → Bool → ℕ → Now → Now
+passing t s call zero now = now
+passing t s call (suc n) now = passing t s call n (ticked t s now None call .now)

@@ -1,6 +1,6 @@
-// Which stages are normal operation.
+// Which stages are normal operation, and where a sheet is loaded.
 ghost use mathlib.Core.Path.{_≡_};
-ghost use Rattle.stage.specs.Shown.{staysNormal, normalBefore, inNormal, isTrackGreen};
+ghost use Rattle.stage.specs.Shown.{staysNormal, normalBefore, inNormal, resting};
 use stage::Place;
 use stage::Stage;
 use stage::Then;
@@ -57,12 +57,12 @@ pub fn in_normal(stage: Stage) -> bool
     }
 }
 
-// Track green in normal operation: the only stage in which a sheet is loaded.
-pub fn is_track_green(stage: Stage) -> bool
-    ensures { λ r. ⌜ r ≡ isTrackGreen stage ⌝ }
+// Track green in normal operation with no call counted: where alone a sheet is loaded.
+pub fn resting(stage: Stage, count: u64) -> bool
+    ensures { λ r. ⌜ r ≡ resting stage count ⌝ }
 {
     match stage {
-        Stage::TrackGreen => true,
+        Stage::TrackGreen => count == 0,
         Stage::TrackYellow {
             place: _,
             then: _,

@@ -14,7 +14,8 @@ use Rattle.stage.specs.declared.Command.{Command}
 use Rattle.unit.specs.declared.Unit.{Unit}
 use Rattle.unit.specs.Runs.{Event, tick, load, answerTo, run}
 use Rattle.unit.specs.Unit.{tickOf, loadOf}
-use Rattle.unit.proofs.Loads.{load-needs, not-loaded}
+use Rattle.unit.proofs.Loads.{load-needs}
+use Rattle.unit.proofs.Refused.{not-loaded}
 use Rattle.promises.specs.Demand.{ticksIn, upTo, atEnd, ShowsGreen}
 
 -- it shows at the end of each tick from number `first` on and before number `last`, and at no other, as far as the events go

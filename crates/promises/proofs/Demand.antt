@@ -17,11 +17,12 @@ use Rattle.flow.proofs.Counts.{off-clears}
 use Rattle.unit.specs.declared.Reply.{Reply}
 use Rattle.unit.specs.declared.Unit.{Unit}
 use Rattle.measured.specs.Measured.{lengthsOf}
-use Rattle.unit.specs.Unit.{nowOf, fits, tickOf, started, startOf, loadOf}
+use Rattle.unit.specs.Unit.{nowOf, fits, tickOf, restarted, startOf, loadOf}
 use Rattle.unit.specs.Runs.{Event, tick, load, answerTo, run}
 use Rattle.unit.proofs.Fit.{fits-sheet, onward, tick-is}
 use Rattle.unit.proofs.Kept.{fits-kept, start-fits}
-use Rattle.unit.proofs.Loads.{load-needs, load-takes, not-loaded}
+use Rattle.unit.proofs.Loads.{load-needs, load-takes}
+use Rattle.unit.proofs.Refused.{not-loaded}
 use Rattle.promises.specs.Demand.{line17, line51, seenOn, CallOn, ticksIn, atEnd, ShowsGreen, Demanded, Demand3, GreenByLine17}
 use Rattle.promises.specs.Promises.{NoneCounted}
 use Rattle.promises.proofs.Greens.{three, unit-counts, unit-lasts, first-tick}
@@ -57,7 +58,7 @@ run-clear (load s ∷ es) on u f k =
     run-clear es (pick (isFine (loadOf u s .answer)) false on) (loadOf u s .unit) (fits-on u (load s) f) (load-clear u s on k (isFine (loadOf u s .answer)) refl)
 
 start-clear : (s : Sheet) → startOf s .unit .count ≡ 0
-unfolding started
+unfolding restarted
 start-clear s = cases (λ (r : Reply). r .unit .count ≡ 0) (isFine (worksheetOf s .answer)) _ _ (λ e. refl) (λ e. refl)
 
 pub none-counted : NoneCounted

@@ -32,7 +32,7 @@ use Rattle.flow.specs.Tick.{ticked}
 use Rattle.unit.specs.declared.Unit.{Unit}
 use Rattle.unit.specs.Runs.{Event, tick, load, answerTo, run}
 use Rattle.measured.specs.Measured.{lengthsOf, accepted}
-use Rattle.unit.specs.Unit.{nowOf, holding, fits, fresh, started, startOf}
+use Rattle.unit.specs.Unit.{nowOf, holding, fits, fresh, restarted, startOf}
 use Rattle.unit.proofs.Fit.{fresh-fits, onward, tick-is, onward-fits}
 use Rattle.unit.proofs.Kept.{fits-kept}
 use Rattle.promises.specs.Demand.{line, line17, line51, line53, seenOn, MayBegin, CallOn, ticksIn, upTo, atEnd, Demanded}
@@ -57,7 +57,7 @@ steps s (load y ∷ es) o x f = absurd o
 
 module _ (s : Sheet) (t : Lengths) (w : Goes s t) (past : List Event) (o : TicksOnly past) where
   start-is : startOf s .unit ≡ fresh s
-  unfolding started pick
+  unfolding restarted pick
   start-is = rw (w .fine) refl
 
   past-is : run (startOf s .unit) past ≡ holding s (before t s past)
@@ -98,7 +98,7 @@ calls-on zero = tt
 calls-on (suc n) = (refl, calls-on n)
 
 start-fine : (s : Sheet) → accepted s ≡ true → startOf s .answer ≡ Fine
-unfolding started pick
+unfolding restarted pick
 start-fine s a = rw a (is-fine (worksheetOf s .answer) a)
 
 starts-with : (s : Sheet) → accepted s ≡ true → (past : List Event) → MayBeginAt s past → (m n : ℕ)

@@ -38,7 +38,7 @@ use Rattle.unit.specs.Unit.{nowOf, fits, startOf, loadOf}
 use Rattle.unit.specs.Runs.{Event, tick, load, answerTo, run}
 use Rattle.unit.proofs.Fit.{onward, tick-is, onward-fits}
 use Rattle.unit.proofs.Kept.{fits-kept, start-fits}
-use Rattle.unit.proofs.Loads.{not-loaded}
+use Rattle.unit.proofs.Refused.{not-loaded}
 use Rattle.promises.specs.Demand.{CallOn}
 use Rattle.promises.specs.Promises.{NoLoadDuringCall}
 use Rattle.promises.proofs.Between.{counted-refuses, elsewhere-refuses}

@@ -1,5 +1,7 @@
 -- Which stage is shown.
+use Prim.Native.Nat.{ℕ}
 use mathlib.Core.Bool.{Bool, true, false}
+use lib.Dec.{eqb}
 use Rattle.stage.specs.declared.Stage.{Stage}
 use Rattle.stage.specs.declared.Stage.the-variants.{TrackGreen, TrackYellow, TrackRed, Open, Ending, ClearanceGreen, Dwell}
 use Rattle.stage.specs.declared.Place.{Place}
@@ -28,11 +30,12 @@ inNormal (Ending n z l w) = normalBefore Normal z
 inNormal (ClearanceGreen k) = false
 inNormal Dwell = false
 
-unfoldable pub isTrackGreen : Stage → Bool
-isTrackGreen TrackGreen = true
-isTrackGreen (TrackYellow p z k) = false
-isTrackGreen (TrackRed p z k) = false
-isTrackGreen (Open n g w) = false
-isTrackGreen (Ending n z l w) = false
-isTrackGreen (ClearanceGreen k) = false
-isTrackGreen Dwell = false
+-- "normal track green with the call count at 0", where alone the loader takes a sheet
+unfoldable pub resting : Stage → ℕ → Bool
+resting TrackGreen count = eqb count 0
+resting (TrackYellow p z k) count = false
+resting (TrackRed p z k) count = false
+resting (Open n g w) count = false
+resting (Ending n z l w) count = false
+resting (ClearanceGreen k) count = false
+resting Dwell count = false

@@ -16,7 +16,7 @@ use Rattle.flow.proofs.Fit as flow
 use Rattle.measured.specs.declared.Measured.{Measured}
 use Rattle.unit.specs.declared.Unit.{Unit}
 use Rattle.measured.specs.Measured.{lengthsOf, accepted, measureOf}
-use Rattle.unit.specs.Unit.{nowOf, holding, fitsIn, fitsWith, fits, tickOf, fresh}
+use Rattle.unit.specs.Unit.{nowOf, holding, fitsWith, fits, tickOf, fresh}
 
 -- ---- what the test says
 -- whatever a worksheet worked out once gave the test
@@ -28,13 +28,13 @@ unfolding fitsWith
 fits-sheet u e = both-left (accepted (u .sheet)) _ e
 
 pub fits-told : (u : Unit) → fits u ≡ true → Fits (lengthsOf (u .sheet)) (u .sheet) (nowOf u)
-unfolding fitsWith fitsIn
+unfolding fitsWith
 fits-told u e =
     let b = both-right (accepted (u .sheet)) _ e in
     record { count = both-left (leb (u .count) (lengthsOf (u .sheet) .l03)) _ b; stage = both-right (leb (u .count) (lengthsOf (u .sheet) .l03)) _ b }
 
 pub told-fits : (s : Sheet) (x : Now) → accepted s ≡ true → Fits (lengthsOf s) s x → fits (holding s x) ≡ true
-unfolding fitsWith fitsIn
+unfolding fitsWith
 told-fits s x a f = both-true _ _ a (both-true _ _ (f .count) (f .stage))
 
 pub fresh-fits : (s : Sheet) → accepted s ≡ true → fits (fresh s) ≡ true

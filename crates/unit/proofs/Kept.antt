@@ -14,18 +14,20 @@ use Rattle.sheet.specs.declared.Refusal.the-variants.{UnitUnfit, LoadNotNow, Is
 use Rattle.sheet.specs.declared.Sheet.{Sheet}
 use Rattle.sheet.specs.Refusals.{isFine, answerNumber, orElse, unless}
 use Rattle.sheet.proofs.Answers.{is-fine}
+use Rattle.sheet.specs.Zero.{zeroSheet}
 use Rattle.lines.specs.Worksheet.{worksheetOf}
 use Rattle.stage.specs.declared.Command.{Command}
+use Rattle.stage.specs.Shown.{resting}
 use Rattle.flow.specs.Tick.{ticked}
 use Rattle.unit.specs.declared.Reply.{Reply}
 use Rattle.unit.specs.declared.Unit.{Unit}
 use Rattle.measured.specs.Measured.{lengthsOf, accepted}
 use Rattle.loading.specs.Loading.{newer}
-use Rattle.unit.specs.Unit.{nowOf, fits, tickOf, started, startOf, resting, placeAnswer, loadAnswer, loaded, loadOf}
+use Rattle.unit.specs.Unit.{nowOf, fits, tickOf, fresh, restarted, startOf, placeAnswer, loadAnswer, loadOf}
 use Rattle.unit.specs.Runs.{Event, tick, load, answerTo, run}
 use Rattle.unit.specs.Promises.{IssueKept, FitsKept, StartFits}
 use Rattle.unit.proofs.Fit.{fresh-fits, onward-fits}
-use Rattle.unit.proofs.Loads.{loadable, loaded-answer}
+use Rattle.unit.proofs.Loads.{loadable}
 use Rattle.unit.proofs.Refused as refused
 
 -- ---- one event: v is the unit after it, where u was before
@@ -43,7 +45,7 @@ tick-after u c call =
     (λ f. record { fit = λ _. onward-fits u c call f; issue = le-refl _ }) (λ f. same-after u)
 
 load-after : (u : Unit) (s : Sheet) → After u (loadOf u s .unit)
-unfolding loaded
+unfolding restarted
 load-after u s =
     cases (λ (t : Reply). After u (t .unit)) (isFine (loadAnswer u s)) _ _
     (λ e.
@@ -69,10 +71,10 @@ fits-kept u (e ∷ es) f = fits-kept (answerTo u e .unit) es (after u e .fit f)
 
 -- ---- from a fresh start
 pub start-accepted : (s : Sheet) → startOf s .answer ≡ Fine → accepted s ≡ true
-start-accepted s e = ap isFine (sym (refused.started-answer s (worksheetOf s .answer)) ∙ e)
+start-accepted s e = ap isFine (sym (refused.restarted-answer (worksheetOf s .answer) s (fresh zeroSheet)) ∙ e)
 
 pub start-fits : StartFits
-unfolding started pick
+unfolding restarted pick
 start-fits s e = rw (start-accepted s e) (fresh-fits s (start-accepted s e))
 
 -- ---- a unit that fits is not answered 20
@@ -101,8 +103,8 @@ unfolding loadAnswer placeAnswer unless
 load-not-twenty u s own f e =
     neither (unless (fits u) UnitUnfit 0) (orElse (worksheetOf s .answer) (placeAnswer u s))
     (λ z. let x = rw f at z in omega arith)
-    (neither (worksheetOf s .answer) (placeAnswer u s) own (place-number (resting u) (newer (u .sheet .issue) (s .issue))))
-    (ap answerNumber (sym (loaded-answer u s (loadAnswer u s))) ∙ e)
+    (neither (worksheetOf s .answer) (placeAnswer u s) own (place-number (resting (u .stage) (u .count)) (newer (u .sheet .issue) (s .issue))))
+    (ap answerNumber (sym (refused.restarted-answer (loadAnswer u s) s u)) ∙ e)
 
 pub not-twenty : ((s : Sheet) → NotSo s) → (u : Unit) (e : Event) → fits u ≡ true → answerNumber (answerTo u e .answer) ≡ 20 → ⊥
 unfolding answerTo

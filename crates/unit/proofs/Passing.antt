@@ -1,30 +1,16 @@
 -- Ticks without a command, one after the other: a unit that fits goes on by the lengths of its sheet, one that does not stays. Assumes nothing.
-use Prim.Native.Nat.{ℕ, zero, suc, _+_, _-_, _<_, _≤_}
+use Prim.Native.Nat.{ℕ, zero, suc}
 use mathlib.Core.Bool.{Bool, true, false}
 use mathlib.Core.Path.{_≡_, refl, ap, _∙_}
-use native.Mathlib.Omega.{arith}
 use lib.ListN.{replicate}
 use Rattle.units.specs.Numbers.{pick}
-use Rattle.sheet.specs.declared.Sheet.{Sheet}
 use Rattle.stage.specs.declared.Command.the-variants.{None}
-use Rattle.stage.specs.declared.Lengths.{Lengths}
-use Rattle.flow.specs.declared.Now.{Now}
-use Rattle.flow.specs.Tick.{ticked}
+use Rattle.flow.specs.Tick.{passing}
 use Rattle.unit.specs.declared.Unit.{Unit}
 use Rattle.measured.specs.Measured.{lengthsOf}
 use Rattle.unit.specs.Unit.{nowOf, holding, fits, tickOf}
-use Rattle.unit.specs.Runs.{tick, answerTo, run, passing}
+use Rattle.unit.specs.Runs.{tick, answerTo, run}
 use Rattle.unit.proofs.Fit.{onward, tick-is, onward-fits}
-
--- one of the ticks left, and none
-module _ (t : Lengths) (s : Sheet) (call : Bool) (n i : ℕ) (x : Now) where
-  pub pass-step : i < n → passing t s call (n - i) x ≡ passing t s call (n - (i + 1)) (ticked t s x None call .now)
-  unfolding passing
-  pass-step h = let m : n - i ≡ suc (n - (i + 1)) = omega arith in rw m refl
-
-  pub pass-end : n ≤ i → passing t s call (n - i) x ≡ x
-  unfolding passing
-  pass-end h = let m : n - i ≡ 0 = omega arith in rw m refl
 
 -- a unit that fits
 one-on : (call : Bool) (u : Unit) → fits u ≡ true → answerTo u (tick None call) .unit ≡ onward u None call

@@ -1,4 +1,4 @@
--- Refusals 20 and 23 of a tick, and a refused start, change nothing but what the paper names. Assumes nothing.
+-- Refusals 20 and 23 of a tick, a refused start and a refused load change nothing but what the paper names. Assumes nothing.
 use mathlib.Core.Bool.{Bool, true, false}
 use mathlib.Core.Path.{_≡_, refl, sym, ap, _∙_}
 use native.Mathlib.Omega.{arith}
@@ -20,8 +20,8 @@ use Rattle.lines.specs.Worksheet.{worksheetOf}
 use Rattle.unit.specs.declared.Reply.{Reply}
 use Rattle.unit.specs.declared.Unit.{Unit}
 use Rattle.measured.specs.Measured.{lengthsOf}
-use Rattle.unit.specs.Unit.{nowOf, holding, fits, replied, tickOf, fresh, started}
-use Rattle.unit.specs.Promises.{Unchanged, AsWithNone, NoLine, RefusedStart}
+use Rattle.unit.specs.Unit.{nowOf, holding, fits, replied, tickOf, fresh, restarted, loadAnswer}
+use Rattle.unit.specs.Promises.{Unchanged, AsWithNone, NoLine, RefusedStart, NotLoaded}
 
 -- a command is answered fine or 23, and no line is named
 pub not-twenty : (b : Bool) → answerNumber (unless b CommandNotAllowed 0) ≡ 20 → ⊥
@@ -67,12 +67,18 @@ pub as-with-none : AsWithNone
 unfolding tickOf
 as-with-none u c call e = as-none u c call (fits u) e
 
-pub started-answer : (s : Sheet) (a : Answer) → started s a .answer ≡ a
-unfolding started
-started-answer s a = cases (λ (r : Reply). r .answer ≡ a) (isFine a) _ _ (λ e. refl) (λ e. refl)
+pub restarted-answer : (a : Answer) (s : Sheet) (kept : Unit) → restarted a s kept .answer ≡ a
+unfolding restarted
+restarted-answer a s kept = cases (λ (r : Reply). r .answer ≡ a) (isFine a) _ _ (λ e. refl) (λ e. refl)
+
+pub kept-so : (a : Answer) (s : Sheet) (kept : Unit) → isFine (restarted a s kept .answer) ≡ false → restarted a s kept .unit ≡ kept
+unfolding restarted pick
+kept-so a s kept e =
+    let b : isFine a ≡ false = ap isFine (sym (restarted-answer a s kept)) ∙ e in
+    rw b refl
 
 pub refused-start : RefusedStart
-unfolding started pick
-refused-start s e =
-    let b : isFine (worksheetOf s .answer) ≡ false = ap isFine (sym (started-answer s (worksheetOf s .answer))) ∙ e in
-    rw b refl
+refused-start s e = kept-so (worksheetOf s .answer) s (fresh zeroSheet) e
+
+pub not-loaded : NotLoaded
+not-loaded u s e = kept-so (loadAnswer u s) s u e

@@ -1,19 +1,17 @@
 -- A tick, the loader and a start.
-use Prim.Native.Nat.{ℕ}
 use mathlib.Core.Bool.{Bool}
-use lib.Dec.{eqb, leb, ltb}
+use lib.Dec.{leb}
 use Rattle.units.specs.Numbers.{pick, both}
 use Rattle.sheet.specs.declared.Answer.{Answer}
 use Rattle.sheet.specs.declared.Answer.the-variants.{Refused}
-use Rattle.sheet.specs.declared.Refusal.the-variants.{UnitUnfit, LoadNotNow, IssueNotNewer, CommandNotAllowed}
+use Rattle.sheet.specs.declared.Refusal.the-variants.{UnitUnfit, CommandNotAllowed}
 use Rattle.sheet.specs.declared.Sheet.{Sheet}
-use Rattle.sheet.specs.Refusals.{isFine, orElse, unless}
+use Rattle.sheet.specs.Refusals.{isFine, unless}
 use Rattle.sheet.specs.Zero.{zeroSheet}
 use Rattle.lines.specs.Worksheet.{worksheetOf}
 use Rattle.stage.specs.declared.Command.{Command}
-use Rattle.stage.specs.declared.Lengths.{Lengths}
 use Rattle.stage.specs.declared.Stage.the-variants.{TrackGreen}
-use Rattle.stage.specs.Shown.{isTrackGreen}
+use Rattle.stage.specs.Shown.{resting}
 use Rattle.stage.specs.Fitness.{stageFits}
 use Rattle.flow.specs.declared.Now.{Now}
 use Rattle.flow.specs.declared.Ticked.{Ticked}
@@ -31,14 +29,9 @@ nowOf u = record { stage = u .stage; count = u .count }
 abbrev pub holding : Sheet → Now → Unit
 holding s now = record { sheet = s; stage = now .stage; count = now .count }
 
--- ---- refusal 20
--- "a count above line 3", and what the stage shows
-unfoldable pub fitsIn : Lengths → Unit → Bool
-fitsIn t u = both (leb (u .count) (t .l03)) (stageFits t (u .sheet) (u .stage))
-
--- "a refused sheet" before these
+-- ---- refusal 20: "a refused sheet", then "a count above line 3" and what the stage shows
 unfoldable pub fitsWith : Measured → Unit → Bool
-fitsWith m u = both (isFine (m .answer)) (fitsIn (m .lengths) u)
+fitsWith m u = both (isFine (m .answer)) (both (leb (u .count) (m .lengths .l03)) (stageFits (m .lengths) (u .sheet) (u .stage)))
 
 abbrev pub fits : Unit → Bool
 fits u = fitsWith (measureOf (u .sheet)) u
@@ -57,28 +50,23 @@ tickOf u c call =
 abbrev pub fresh : Sheet → Unit
 fresh s = record { sheet = s; stage = TrackGreen; count = 0 }
 
--- "a refused start gives a unit in track green on that zero sheet"
-unfoldable pub started : Sheet → Answer → Reply
-started s a = pick (isFine a) (record { unit = fresh s; answer = a }) (record { unit = fresh zeroSheet; answer = a })
+-- a sheet that is taken restarts the unit in track green; one that is refused leaves the unit that there is
+unfoldable pub restarted : Answer → Sheet → Unit → Reply
+restarted a s kept = pick (isFine a) (record { unit = fresh s; answer = a }) (record { unit = kept; answer = a })
 
+-- "a refused start gives a unit in track green on that zero sheet"
 abbrev pub startOf : Sheet → Reply
-startOf s = started s (worksheetOf s .answer)
+startOf s = restarted (worksheetOf s .answer) s (fresh zeroSheet)
 
 -- ---- the loader: "takes a sheet only in normal track green with the call count at 0, and then restarts track green"
-unfoldable pub resting : Unit → Bool
-resting u = both (isTrackGreen (u .stage)) (eqb (u .count) 0)
-
 -- "21 before 22"
 unfoldable pub placeAnswer : Unit → Sheet → Answer
-placeAnswer u s = placeBy (resting u) (u .sheet .issue) (s .issue)
+placeAnswer u s = placeBy (resting (u .stage) (u .count)) (u .sheet .issue) (s .issue)
 
 -- "20 before all others"; then the sheet offered "meets 2 to 10 again .. before 11, 21 or 22"
 unfoldable pub loadAnswer : Unit → Sheet → Answer
 loadAnswer u s = answerBy (fits u) (worksheetOf s .answer) (placeAnswer u s)
 
 -- after "a refused load the unit is unchanged"
-unfoldable pub loaded : Unit → Sheet → Answer → Reply
-loaded u s a = pick (isFine a) (record { unit = fresh s; answer = a }) (record { unit = u; answer = a })
-
 abbrev pub loadOf : Unit → Sheet → Reply
-loadOf u s = loaded u s (loadAnswer u s)
+loadOf u s = restarted (loadAnswer u s) s u

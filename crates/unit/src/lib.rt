@@ -1,6 +1,6 @@
 // The sequence unit: a sheet, the stage shown and the count of the call. Here a start; `sequence` has the tick and the loader.
 ghost use mathlib.Core.Path.{_≡_};
-ghost use Rattle.unit.specs.Unit.{fresh, started, startOf};
+ghost use Rattle.unit.specs.Unit.{fresh, restarted, startOf};
 use sheet::Answer;
 use sheet::Sheet;
 use stage::Stage;
@@ -29,8 +29,9 @@ fn fresh(sheet: Sheet) -> Unit
     }
 }
 
-fn started(sheet: Sheet, answer: Answer) -> Reply
-    ensures { λ r. ⌜ r ≡ started sheet answer ⌝ }
+// A sheet that is taken restarts the unit; one that is refused leaves the unit that there is.
+fn restarted(answer: Answer, sheet: Sheet, kept: Unit) -> Reply
+    ensures { λ r. ⌜ r ≡ restarted answer sheet kept ⌝ }
 {
     if answers::is_fine(answer) {
         Reply {
@@ -38,9 +39,8 @@ fn started(sheet: Sheet, answer: Answer) -> Reply
             answer: answer,
         }
     } else {
-        let zero = zeros::zero_sheet();
         Reply {
-            unit: fresh(zero),
+            unit: kept,
             answer: answer,
         }
     }
@@ -52,5 +52,6 @@ pub fn start(sheet: Sheet) -> Reply
 {
     let m = measured::measure(sheet);
     let answer = m.answer;
-    started(sheet, answer)
+    let zero = zeros::zero_sheet();
+    restarted(answer, sheet, fresh(zero))
 }

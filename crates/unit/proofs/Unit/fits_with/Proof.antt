@@ -8,8 +8,8 @@ use Rattle.unit.proofs.Unit.fits_with.Tie as tie
 is-fine-requires : tie.Need-is-fine-requires
 is-fine-requires c κs = search needs
 
-fits-in-requires : tie.Need-fits-in-requires
-fits-in-requires c κs = search needs
+stage-fits-requires : tie.Need-stage-fits-requires
+stage-fits-requires c κs = search needs
 
 returns : tie.Need-returns
 unfolding fitsWith
@@ -19,5 +19,9 @@ returns-2 : tie.Need-returns-2
 unfolding fitsWith
 returns-2 c = search steps
 
+returns-3 : tie.Need-returns-3
+unfolding fitsWith
+returns-3 c = search steps
+
 pub fits-with-spec : {M : Type 1} → statement M
-fits-with-spec = tie.close (tie.spec is-fine-requires fits-in-requires returns returns-2)
+fits-with-spec = tie.close (tie.spec is-fine-requires stage-fits-requires returns returns-2 returns-3)

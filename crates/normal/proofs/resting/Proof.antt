@@ -1,9 +1,9 @@
--- `normal::is_track_green` meets its contract: arm by arm. Assumes nothing.
-use Rattle.units.proofs.Steps.{steps, arm}
-use Rattle.stage.specs.Shown.{isTrackGreen}
+-- `normal::resting` meets its contract: arm by arm. Assumes nothing.
+use Rattle.units.proofs.Steps.{steps, head2}
+use Rattle.stage.specs.Shown.{resting}
 use borrow.Author.Needs.{needs}
-use Rattle.normal.proofs.is_track_green.Statement.{statement}
-use Rattle.normal.proofs.is_track_green.Tie as tie
+use Rattle.normal.proofs.resting.Statement.{statement}
+use Rattle.normal.proofs.resting.Tie as tie
 
 enum-told : tie.Need-enum-told
 enum-told c = search needs
@@ -27,35 +27,35 @@ enum-told-7 : tie.Need-enum-told-7
 enum-told-7 c = search needs
 
 returns : tie.Need-returns
-unfolding isTrackGreen
-returns c = search (arm isTrackGreen, steps)
+unfolding resting
+returns c = search (head2 resting, steps)
 
 returns-2 : tie.Need-returns-2
-unfolding isTrackGreen
-returns-2 c = search (arm isTrackGreen, steps)
+unfolding resting
+returns-2 c = search (head2 resting, steps)
 
 returns-3 : tie.Need-returns-3
-unfolding isTrackGreen
-returns-3 c = search (arm isTrackGreen, steps)
+unfolding resting
+returns-3 c = search (head2 resting, steps)
 
 returns-4 : tie.Need-returns-4
-unfolding isTrackGreen
-returns-4 c = search (arm isTrackGreen, steps)
+unfolding resting
+returns-4 c = search (head2 resting, steps)
 
 returns-5 : tie.Need-returns-5
-unfolding isTrackGreen
-returns-5 c = search (arm isTrackGreen, steps)
+unfolding resting
+returns-5 c = search (head2 resting, steps)
 
 returns-6 : tie.Need-returns-6
-unfolding isTrackGreen
-returns-6 c = search (arm isTrackGreen, steps)
+unfolding resting
+returns-6 c = search (head2 resting, steps)
 
 returns-7 : tie.Need-returns-7
-unfolding isTrackGreen
-returns-7 c = search (arm isTrackGreen, steps)
+unfolding resting
+returns-7 c = search (head2 resting, steps)
 
-pub is-track-green-spec : {M : Type 1} → statement M
-is-track-green-spec =
+pub resting-spec : {M : Type 1} → statement M
+resting-spec =
     tie.close
     (tie.spec
     enum-told

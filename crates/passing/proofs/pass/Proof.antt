@@ -1,16 +1,16 @@
--- `unit::sequence::passing` meets its contract: at each turn the ticks left come to the same end. Assumes nothing.
+-- `passing::pass` meets its contract: at each turn the ticks left come to the same end. Assumes nothing.
 use Prim.Native.Nat.{_+_, _-_, _≤_}
 use native.Mathlib.Nat.{sub-zero}
 use mathlib.Core.Path.{_≡_, sym, _∙_, ap}
 use Rattle.stage.specs.declared.Command.the-variants.{None}
 use Rattle.flow.specs.declared.Ticked.{Ticked}
 use Rattle.flow.specs.declared.Now.{Now}
-use Rattle.unit.specs.Runs.{passing}
-use Rattle.unit.proofs.Passing.{pass-step, pass-end}
+use Rattle.flow.specs.Tick.{passing}
+use Rattle.flow.proofs.Passing.{pass-step, pass-end}
 use borrow.Author.Needs.{needs}
 use native.Mathlib.Omega.{arith}
-use Rattle.unit.proofs.sequence.passing.Statement.{statement}
-use Rattle.unit.proofs.sequence.passing.Tie as tie
+use Rattle.passing.proofs.pass.Statement.{statement}
+use Rattle.passing.proofs.pass.Tie as tie
 
 abbrev Inv-loop : tie.InvT-loop
 Inv-loop t sheet call count now₀ i₀ now i = (i ≤ count) × (passing t sheet call (count - i) now ≡ passing t sheet call count now₀)
@@ -42,7 +42,7 @@ returns : tie.Need-returns Inv-loop μ-loop
 returns c =
     sym (pass-end (c .before .before .args .t) (c .before .before .args .sheet) (c .before .before .args .call) (c .before .before .args .count) (c .before .loop .i) (c .before .loop .now) (c .loop-test .left)) ∙ c .before .loop .inv .1
 
-pub passing-spec : {M : Type 1} → statement M
-passing-spec =
+pub pass-spec : {M : Type 1} → statement M
+pass-spec =
     tie.close
     (tie.spec Inv-loop μ-loop loop-holds tick-requires add-i loop-less loop-again returns)
