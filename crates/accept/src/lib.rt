@@ -12,7 +12,7 @@ pub fn lines_fault(numbers: &[u32; rows::NUMBERS]) -> Answer
     let mut row: usize = 0;
     let mut line: u32 = 1;
     while row < rows::ROWS {
-        if rows::present(numbers, row) {
+        if places::present(numbers, row) {
             let fault = row_fault::row_fault(numbers, row, line);
             if answers::is_fine(fault) {
                 line += 1;

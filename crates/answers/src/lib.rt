@@ -1,31 +1,8 @@
-// The numbers of the refusals, and what an answer says.
+// Whether an answer is fine, and the first refusal of two.
 ghost use mathlib.Core.Path.{_≡_};
-ghost use Rattle.sheet.specs.Refusals.{numberOf, isFine, answerNumber, answerLine, orElse, unless};
+ghost use Rattle.sheet.specs.Refusals.{isFine, orElse, unless};
 use sheet::Answer;
 use sheet::Refusal;
-
-// The paper's number of a refusal.
-pub fn number(refusal: Refusal) -> u32
-    ensures { λ r. ⌜ r ≡ numberOf refusal ⌝ }
-{
-    match refusal {
-        Refusal::Malformed => 1,
-        Refusal::OutOfRange => 2,
-        Refusal::PhasesDontRise => 3,
-        Refusal::PointsDontRise => 4,
-        Refusal::PedestriansInModeZero => 5,
-        Refusal::ClearanceTooShort => 6,
-        Refusal::RelocationBeyondStorage => 7,
-        Refusal::WarningTooShort => 8,
-        Refusal::BeyondLastPoint => 9,
-        Refusal::TrackLongerThanTransfer => 10,
-        Refusal::NoRoom => 11,
-        Refusal::UnitUnfit => 20,
-        Refusal::LoadNotNow => 21,
-        Refusal::IssueNotNewer => 22,
-        Refusal::CommandNotAllowed => 23,
-    }
-}
 
 pub fn is_fine(answer: Answer) -> bool
     ensures { λ r. ⌜ r ≡ isFine answer ⌝ }
@@ -33,25 +10,6 @@ pub fn is_fine(answer: Answer) -> bool
     match answer {
         Answer::Fine => true,
         Answer::Refused(_, _) => false,
-    }
-}
-
-// The number and the line of an answer, 0 and 0 where it is fine.
-pub fn answer_number(answer: Answer) -> u32
-    ensures { λ r. ⌜ r ≡ answerNumber answer ⌝ }
-{
-    match answer {
-        Answer::Fine => 0,
-        Answer::Refused(refusal, _) => number(refusal),
-    }
-}
-
-pub fn answer_line(answer: Answer) -> u32
-    ensures { λ r. ⌜ r ≡ answerLine answer ⌝ }
-{
-    match answer {
-        Answer::Fine => 0,
-        Answer::Refused(_, line) => line,
     }
 }
 

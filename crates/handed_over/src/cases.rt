@@ -68,7 +68,7 @@ fn command(n: u32) -> Command {
 fn held(site: &[u32; rows::NUMBERS], n: &[u32; rows::NUMBERS]) -> Unit {
     Unit {
         sheet: from_numbers::sheet_of(&changed(site, n[PLACE], n[VALUE])),
-        stage: state::stage_of(state(n)),
+        stage: from_state::stage_of(state(n)),
         count: wide(n[COUNT]),
     }
 }

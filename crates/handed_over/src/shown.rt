@@ -23,7 +23,7 @@ fn more(numbers: &[u64]) {
 }
 
 fn stage(stage: Stage) {
-    let n = state::numbers_of(stage);
+    let n = to_state::numbers_of(stage);
     number(b" ", n.kind as u64);
     more(
         &[
@@ -61,8 +61,8 @@ pub(crate) fn unit(site: &[u32; rows::NUMBERS], unit: Unit) {
 
 pub(crate) fn reply(site: &[u32; rows::NUMBERS], event: &[u8], reply: Reply) {
     let answer = reply.answer;
-    number(event, answers::answer_number(answer) as u64);
-    number(b",", answers::answer_line(answer) as u64);
+    number(event, numbering::answer_number(answer) as u64);
+    number(b",", numbering::answer_line(answer) as u64);
     let after = reply.unit;
     unit(site, after);
 }

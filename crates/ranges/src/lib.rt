@@ -67,8 +67,8 @@ pub fn in_ranges(numbers: &[u32; rows::NUMBERS], row: usize) -> bool
     if rows::ROWS <= row {
         return true;
     }
-    let at = rows::place(row);
-    let n = rows::width(row);
+    let at = places::place(row);
+    let n = places::width(row);
     let mut j: usize = 0;
     while j < n {
         if in_range(row, j, numbers[at + j]) {

@@ -152,8 +152,8 @@ fn line(s: &[u8], at: usize, row: usize, v: &mut [u32; NUMBERS]) -> Found
     let facts = rows::facts(row);
     let letters = facts.0;
     let form = facts.2;
-    let place = rows::place(row);
-    let n = rows::width(row);
+    let place = places::place(row);
+    let n = places::width(row);
     match key(s, at, letters, facts.1) {
         Place::Nowhere => Found {
             good: false,
@@ -211,7 +211,7 @@ fn lines(s: &[u8], v: &mut [u32; NUMBERS]) -> Reached
     let mut number: u32 = 1;
     let mut row: usize = 0;
     while row < ROWS {
-        if rows::present(v, row) {
+        if places::present(v, row) {
             let taken = judged(s, at, row, number, v);
             let answer = taken.answer;
             if answers::is_fine(answer) {

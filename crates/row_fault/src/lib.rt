@@ -83,7 +83,7 @@ fn after(row: usize, first: usize) -> usize
 fn rule_fault(numbers: &[u32; rows::NUMBERS], row: usize, line: u32) -> Answer
     ensures { λ r. ⌜ r ≡ ruleFault (now (numbers .entry)) row line ⌝ }
 {
-    let kind = rows::kind(row);
+    let kind = places::kind(row);
     if kind == rows::PHASE_KIND {
         let i = after(row, rows::FIRST_PHASE);
         return phase_fault(

@@ -134,8 +134,8 @@ fn bench(s: &[u8]) {
         );
     } else {
         prints::refusal(
-            answers::answer_number(answer) as u64,
-            answers::answer_line(answer) as u64,
+            numbering::answer_number(answer) as u64,
+            numbering::answer_line(answer) as u64,
         );
     }
 }

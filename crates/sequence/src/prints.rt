@@ -41,7 +41,7 @@ pub(crate) fn state(tick: u64, unit: Unit, answer: Answer) {
         shown.walker,
     );
     pair(
-        answers::answer_number(answer) as u64,
-        answers::answer_line(answer) as u64,
+        numbering::answer_number(answer) as u64,
+        numbering::answer_line(answer) as u64,
     );
 }

@@ -21,9 +21,9 @@ fn print_lines(sheet: Sheet) {
 fn print_answer(text: &[u8]) {
     let reading = reader::read(text);
     let answer = reading.answer;
-    io::print_decimal(STDOUT_FILENO, answers::answer_number(answer) as u64);
+    io::print_decimal(STDOUT_FILENO, numbering::answer_number(answer) as u64);
     io::write_all(STDOUT_FILENO, b",");
-    io::print_decimal(STDOUT_FILENO, answers::answer_line(answer) as u64);
+    io::print_decimal(STDOUT_FILENO, numbering::answer_line(answer) as u64);
     if answers::is_fine(answer) {
         print_lines(reading.sheet);
     }

@@ -14,9 +14,9 @@ const BEFORE: u8 = b'.';
 fn print_answer(name: &[u8], by: &[u8], answer: Answer) {
     io::write_all(STDOUT_FILENO, name);
     io::write_all(STDOUT_FILENO, by);
-    io::print_decimal(STDOUT_FILENO, answers::answer_number(answer) as u64);
+    io::print_decimal(STDOUT_FILENO, numbering::answer_number(answer) as u64);
     io::write_all(STDOUT_FILENO, b",");
-    io::print_decimal(STDOUT_FILENO, answers::answer_line(answer) as u64);
+    io::print_decimal(STDOUT_FILENO, numbering::answer_line(answer) as u64);
 }
 
 fn all_zero(lines: Lines) -> bool {

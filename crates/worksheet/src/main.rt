@@ -6,9 +6,9 @@ use sheet::Answer;
 
 fn print_refusal(answer: Answer) {
     io::write_all(STDOUT_FILENO, b"refused=");
-    io::print_decimal(STDOUT_FILENO, answers::answer_number(answer) as u64);
+    io::print_decimal(STDOUT_FILENO, numbering::answer_number(answer) as u64);
     io::write_all(STDOUT_FILENO, b",");
-    io::print_decimal(STDOUT_FILENO, answers::answer_line(answer) as u64);
+    io::print_decimal(STDOUT_FILENO, numbering::answer_line(answer) as u64);
     io::write_all(STDOUT_FILENO, b"\n");
 }
 

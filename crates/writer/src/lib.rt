@@ -148,8 +148,8 @@ fn put_line(out: &mut [u8], at: usize, row: usize, numbers: &[u32; NUMBERS]) -> 
     let facts = rows::facts(row);
     let letters = facts.0;
     let form = facts.2;
-    let place = rows::place(row);
-    let n = rows::width(row);
+    let place = places::place(row);
+    let n = places::width(row);
     let p = put_key(out, at, letters, facts.1);
     let q = put_fields(out, p, form, place, n, numbers);
     put(out, q, 10)
@@ -162,7 +162,7 @@ fn put_lines(out: &mut [u8], numbers: &[u32; NUMBERS]) -> usize
     let mut p: usize = 0;
     let mut row: usize = 0;
     while row < ROWS {
-        if rows::present(numbers, row) {
+        if places::present(numbers, row) {
             p = put_line(out, p, row, numbers);
             row += 1;
         } else {

@@ -1,0 +1,47 @@
+// The paper's number of a refusal, and the number and the line of an answer.
+ghost use mathlib.Core.Path.{_≡_};
+ghost use Rattle.sheet.specs.Refusals.{numberOf, answerNumber, answerLine};
+use sheet::Answer;
+use sheet::Refusal;
+
+// The paper's number of a refusal.
+pub fn number(refusal: Refusal) -> u32
+    ensures { λ r. ⌜ r ≡ numberOf refusal ⌝ }
+{
+    match refusal {
+        Refusal::Malformed => 1,
+        Refusal::OutOfRange => 2,
+        Refusal::PhasesDontRise => 3,
+        Refusal::PointsDontRise => 4,
+        Refusal::PedestriansInModeZero => 5,
+        Refusal::ClearanceTooShort => 6,
+        Refusal::RelocationBeyondStorage => 7,
+        Refusal::WarningTooShort => 8,
+        Refusal::BeyondLastPoint => 9,
+        Refusal::TrackLongerThanTransfer => 10,
+        Refusal::NoRoom => 11,
+        Refusal::UnitUnfit => 20,
+        Refusal::LoadNotNow => 21,
+        Refusal::IssueNotNewer => 22,
+        Refusal::CommandNotAllowed => 23,
+    }
+}
+
+// The number and the line of an answer, 0 and 0 where it is fine.
+pub fn answer_number(answer: Answer) -> u32
+    ensures { λ r. ⌜ r ≡ answerNumber answer ⌝ }
+{
+    match answer {
+        Answer::Fine => 0,
+        Answer::Refused(refusal, _) => number(refusal),
+    }
+}
+
+pub fn answer_line(answer: Answer) -> u32
+    ensures { λ r. ⌜ r ≡ answerLine answer ⌝ }
+{
+    match answer {
+        Answer::Fine => 0,
+        Answer::Refused(_, line) => line,
+    }
+}
