@@ -13,7 +13,7 @@ use Rattle.sheet.specs.declared.Vehicle.{Vehicle}
 use Rattle.sheet.specs.declared.Vehicle.the-variants.{Car, Su, Bus, Wb50}
 use Rattle.sheet.specs.declared.Sheet.{Sheet}
 use Rattle.sheet.specs.Zero.{zeroPhase, zeroPoint}
-use Rattle.rows.specs.Table.{mostPhases, mostPoints, numberCount}
+use Rattle.rows.specs.Table.{mostPhases, mostPoints, numberCount, placeFor}
 use Rattle.numbers.specs.Flat.{vehicleNumber, gradeNumber, numbersFrom, flatOf, vehicleOf, gradeOf, entriesFrom, sheetWith, sheetOf}
 use Rattle.numbers.proofs.Entries.{entries-all}
 
@@ -58,15 +58,15 @@ grade-number-again x h =
     (λ t. rw t (down-number ((1000000 - x) % 1000) (omega (arith, h .0, ltb-true x 1000000 t)) ∙ omega (arith, h .0, ltb-true x 1000000 t)))
     (λ t. rw t (omega (arith, h .1, ltb-false x 1000000 t)))
 
-with-parts : (v : List ℕ) (a b : ℕ) → a ≡ getD v 1 0 → b ≡ getD v 2 0
-    → getD v 0 0 ∷ a ∷ b ∷ entriesFrom (λ (i : ℕ). getD v i 0) (numberCount - 3) 3 ≡ entriesFrom (λ (i : ℕ). getD v i 0) numberCount 0
+with-parts : (v : List ℕ) (a b : ℕ) → a ≡ getD v (placeFor "vehicle") 0 → b ≡ getD v (placeFor "grade") 0
+    → getD v 0 0 ∷ a ∷ b ∷ entriesFrom (λ (i : ℕ). getD v i 0) (numberCount - placeFor "l01") (placeFor "l01") ≡ entriesFrom (λ (i : ℕ). getD v i 0) numberCount 0
 unfolding entriesFrom
-with-parts v a b ea eb = λ i. getD v 0 0 ∷ ea i ∷ eb i ∷ entriesFrom (λ (i : ℕ). getD v i 0) (numberCount - 3) 3
+with-parts v a b ea eb = λ i. getD v 0 0 ∷ ea i ∷ eb i ∷ entriesFrom (λ (i : ℕ). getD v i 0) (numberCount - placeFor "l01") (placeFor "l01")
 
-pub numbers-again : (v : List ℕ) → length v ≡ numberCount → getD v 1 0 ≤ 3 → Graded (getD v 2 0) → flatOf (sheetOf v) ≡ v
+pub numbers-again : (v : List ℕ) → length v ≡ numberCount → getD v (placeFor "vehicle") 0 ≤ 3 → Graded (getD v (placeFor "grade") 0) → flatOf (sheetOf v) ≡ v
 unfolding flatOf numbersFrom entriesFrom
 numbers-again v l hv hg =
-    with-parts v (vehicleNumber (vehicleOf (getD v 1 0))) (gradeNumber (gradeOf (getD v 2 0))) (vehicle-number-again (getD v 1 0) hv) (grade-number-again (getD v 2 0) hg)
+    with-parts v (vehicleNumber (vehicleOf (getD v (placeFor "vehicle") 0))) (gradeNumber (gradeOf (getD v (placeFor "grade") 0))) (vehicle-number-again (getD v (placeFor "vehicle") 0) hv) (grade-number-again (getD v (placeFor "grade") 0) hg)
     ∙ entries-all v numberCount 0 l
 
 pub sheet-again : (s : Sheet) → length (s .phases) ≡ mostPhases → length (s .points) ≡ mostPoints → Graded (gradeNumber (s .grade)) → sheetOf (flatOf s) ≡ s

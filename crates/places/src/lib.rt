@@ -20,7 +20,7 @@ pub fn kind(row: usize) -> usize
         return PHASE_KIND;
     }
     if row < FIRST_POINT {
-        return row - table::KIND_SHIFT;
+        return table::TRACK_KIND + (row - table::TRACK_ROW);
     }
     if row < ROWS {
         return POINT_KIND;

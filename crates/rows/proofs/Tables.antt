@@ -16,7 +16,7 @@ abbrev pub pastPhases : ℕ
 pastPhases = firstPhase + mostPhases
 
 unfoldable pub kindRule : ℕ → ℕ
-kindRule row = pick (ltb row firstPhase) row (pick (ltb row pastPhases) phaseKind (pick (ltb row firstPoint) (row - (mostPhases - 1)) pointKind))
+kindRule row = pick (ltb row firstPhase) row (pick (ltb row pastPhases) phaseKind (pick (ltb row firstPoint) (phaseKind + 1 + (row - pastPhases)) pointKind))
 
 -- how much further a row of one number past the track stands than its number says
 abbrev pub shift : ℕ

@@ -133,9 +133,9 @@ pub const ROWS: usize = FIRST_POINT + MOST_POINTS;
 // The kinds: one for each key.
 pub const PHASE_KIND: usize = FIRST_PHASE;
 
-pub const KIND_SHIFT: usize = MOST_PHASES - 1;
+pub const TRACK_KIND: usize = PHASE_KIND + 1;
 
-pub const POINT_KIND: usize = FIRST_POINT - KIND_SHIFT;
+pub const POINT_KIND: usize = TRACK_KIND + (FIRST_POINT - TRACK_ROW);
 
 pub const KINDS: usize = POINT_KIND + 1;
 

@@ -16,7 +16,7 @@ use Rattle.sheet.specs.declared.Refusal.the-variants.{NoRoom}
 use Rattle.sheet.specs.Refusals.{isFine, orElse, unless}
 use Rattle.sheet.specs.Zero.{zeroPhase, zeroPoint}
 use Rattle.sheet.proofs.Answers.{both-fine, bad-or}
-use Rattle.rows.specs.Table.{rowCount, numberCount, kinds, rows, kindOf, rangesOf, widthOf, placeOf, present}
+use Rattle.rows.specs.Table.{rowFor, placeFor, rowCount, numberCount, kinds, rows, kindOf, rangesOf, widthOf, placeOf, present}
 use Rattle.numbers.specs.Flat.{numbersFrom, flatOf, sheetOf}
 use Rattle.numbers.proofs.Again.{Graded, numbers-again, sheet-again}
 use Rattle.faults.specs.Lines.{linesFault}
@@ -46,7 +46,7 @@ flat-long s = refl
 graded : (x : ℕ) → Between 999920 x 1000080 → Graded x
 graded x b = (omega (arith, b .low), omega (arith, b .high))
 
-sheet-kept : (s : Sheet) → Shaped s → Between 999920 (getD (flatOf s) 2 0) 1000080 → sheetOf (flatOf (trimmed s)) ≡ trimmed s
+sheet-kept : (s : Sheet) → Shaped s → Between 999920 (getD (flatOf s) (placeFor "grade") 0) 1000080 → sheetOf (flatOf (trimmed s)) ≡ trimmed s
 unfolding trimmed flatOf
 sheet-kept s h g =
     sheet-again (trimmed s) (kept-long zeroPhase (s .«phase_count») (s .phases) ∙ h .phases) (kept-long zeroPoint (s .«point_count») (s .points) ∙ h .points) (graded _ g)
@@ -83,17 +83,17 @@ reply-fine Fine s e = (refl, refl)
 reply-fine (Refused r l) s e = never (ap isFine e)
 
 -- the vehicle and the grade of numbers without a fault
-vehicle-in : (v : List ℕ) → linesFault v ≡ Fine → getD v 1 0 ≤ 3
+vehicle-in : (v : List ℕ) → linesFault v ≡ Fine → getD v (placeFor "vehicle") 0 ≤ 3
 unfolding present pick rangesOf kindOf placeOf widthOf
 vehicle-in v e =
-    let b : Between 0 (getD v 1 0) 3 = in-each v (placeOf 1) (rangesOf 1) (row-ranges v 1 (fine-rows v rowCount 0 1 e 1 (omega arith) refl)) 0 (omega arith) in
+    let b : Between 0 (getD v (placeFor "vehicle") 0) 3 = in-each v (placeOf (rowFor "vehicle")) (rangesOf (rowFor "vehicle")) (row-ranges v (rowFor "vehicle") (fine-rows v rowCount 0 1 e (rowFor "vehicle") (omega arith) refl)) 0 (omega arith) in
     b .high
 
-grade-in : (v : List ℕ) → linesFault v ≡ Fine → Graded (getD v 2 0)
+grade-in : (v : List ℕ) → linesFault v ≡ Fine → Graded (getD v (placeFor "grade") 0)
 unfolding present pick rangesOf kindOf placeOf widthOf
 grade-in v e =
-    let b : Between 999920 (getD v 2 0) 1000080 = in-each v (placeOf 2) (rangesOf 2) (row-ranges v 2 (fine-rows v rowCount 0 1 e 2 (omega arith) refl)) 0 (omega arith) in
-    graded (getD v 2 0) b
+    let b : Between 999920 (getD v (placeFor "grade") 0) 1000080 = in-each v (placeOf (rowFor "grade")) (rangesOf (rowFor "grade")) (row-ranges v (rowFor "grade") (fine-rows v rowCount 0 1 e (rowFor "grade") (omega arith) refl)) 0 (omega arith) in
+    graded (getD v (placeFor "grade") 0) b
 
 record Back (t : List ℕ) (s : Sheet) : Type 0 where
   sheet : readOf t .sheet ≡ s

@@ -17,8 +17,8 @@ unfolding kindRule
 returns-2 c =
     kind-ruled (c .before .before .args .row) (omega arith) (search steps)
 
-sub-result : tie.Need-sub-result
-sub-result c = search needs
+add-result : tie.Need-add-result
+add-result c = search needs
 
 returns-3 : tie.Need-returns-3
 unfolding kindRule
@@ -35,4 +35,4 @@ returns-5 c =
     sym (kind-past (c .before .before .before .before .args .row) (omega arith))
 
 pub kind-spec : {M : Type 1} → statement M
-kind-spec = tie.close (tie.spec returns returns-2 sub-result returns-3 returns-4 returns-5)
+kind-spec = tie.close (tie.spec returns returns-2 add-result returns-3 returns-4 returns-5)
