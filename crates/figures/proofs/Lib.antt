@@ -1,4 +1,3 @@
 pub mod Cases
 pub mod Small
 pub mod Promised
-pub mod Fixed

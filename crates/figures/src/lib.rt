@@ -1,6 +1,4 @@
-// Numbers and words at a place of a text.
-ghost use mathlib.Core.Path.{_≡_};
-ghost use Rattle.figures.specs.Figures.{digitOf, numberAt, afterAt, signedAt};
+// Numbers and words at a place of a text. `words` and `digits` find them.
 
 // A number found in the text, and the place past it.
 pub enum Figure {
@@ -12,88 +10,4 @@ pub enum Figure {
 pub enum Place {
     Nowhere,
     At(usize),
-}
-
-// The value of a digit's byte, 10 for any other byte.
-fn digit(b: u8) -> u32
-    ensures { λ r. ⌜ r ≡ digitOf b ⌝ }
-{
-    if b < 48 {
-        return 10;
-    }
-    if 57 < b {
-        return 10;
-    }
-    (b - 48) as u32
-}
-
-// The number that starts at a place of the text.
-pub fn number(s: &[u8], at: usize) -> Figure
-    ensures { λ r. ⌜ r ≡ numberAt (now (s .entry)) at ⌝ }
-{
-    if s.len() <= at {
-        return Figure::Bad;
-    }
-    let first = digit(s[at]);
-    if 9 < first {
-        return Figure::Bad;
-    }
-    let mut v = first;
-    let mut i = at + 1;
-    while i < s.len() {
-        let d = digit(s[i]);
-        if 9 < d {
-            return Figure::Is(v, i);
-        }
-        if v == 0 {
-            return Figure::Bad;
-        }
-        if 99999 < v {
-            return Figure::Bad;
-        }
-        v = v * 10 + d;
-        i = i + 1;
-    }
-    Figure::Is(v, i)
-}
-
-// The place past a word that stands at a place of the text.
-pub fn after(s: &[u8], at: usize, w: &[u8]) -> Place
-    ensures { λ r. ⌜ r ≡ afterAt (now (s .entry)) at (now (w .entry)) ⌝ }
-{
-    let mut i: usize = 0;
-    let mut p = at;
-    while i < w.len() {
-        if s.len() <= p {
-            return Place::Nowhere;
-        }
-        if s[p] != w[i] {
-            return Place::Nowhere;
-        }
-        i = i + 1;
-        p = p + 1;
-    }
-    Place::At(p)
-}
-
-// A number that may carry a minus, as 1,000,000 more than it is.
-pub fn signed(s: &[u8], at: usize) -> Figure
-    ensures { λ r. ⌜ r ≡ signedAt (now (s .entry)) at ⌝ }
-{
-    match after(s, at, b"-") {
-        Place::Nowhere => match number(s, at) {
-            Figure::Bad => Figure::Bad,
-            Figure::Is(v, q) => Figure::Is(1000000 + v, q),
-        },
-        Place::At(p) => match number(s, p) {
-            Figure::Bad => Figure::Bad,
-            Figure::Is(v, q) => {
-                if v < 1 {
-                    Figure::Bad
-                } else {
-                    Figure::Is(1000000 - v, q)
-                }
-            }
-        },
-    }
 }

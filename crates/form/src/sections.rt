@@ -50,7 +50,7 @@ pub(crate) fn vehicle_lines(s: Sheet) -> Vehicles
     let l06 = sums::time(p.other);
     let l07 = sums::time(p.yellow);
     let l08 = sums::time(p.red);
-    let l09 = right_of_way::time(Users::Vehicles, p);
+    let l09 = phase_time::time(Users::Vehicles, p);
     Vehicles {
         l04: l04,
         l05: l05,
@@ -72,7 +72,7 @@ pub(crate) fn pedestrian_lines(s: Sheet) -> Pedestrians
     let l12 = sums::time(p.clearance);
     let l13 = ruled::waited(p, p.yellow);
     let l14 = ruled::waited(p, p.red);
-    let l15 = right_of_way::time(Users::Pedestrians, p);
+    let l15 = phase_time::time(Users::Pedestrians, p);
     Pedestrians {
         l10: l10,
         l11: l11,

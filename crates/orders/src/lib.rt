@@ -34,7 +34,7 @@ pub struct Two {
 pub fn past(s: &[u8], at: usize, word: &[u8]) -> usize
     ensures { λ r. ⌜ r ≡ pastAt (now (s .entry)) at (now (word .entry)) ⌝ }
 {
-    match figures::after(s, at, word) {
+    match words::after(s, at, word) {
         Place::Nowhere => NONE,
         Place::At(next) => next,
     }
@@ -44,7 +44,7 @@ pub fn past(s: &[u8], at: usize, word: &[u8]) -> usize
 fn number(s: &[u8], at: usize, least: u32, most: u32) -> Value
     ensures { λ r. ⌜ r ≡ valueAt (now (s .entry)) at least most ⌝ }
 {
-    if let Figure::Is(value, next) = figures::number(s, at) {
+    if let Figure::Is(value, next) = digits::number(s, at) {
         if least <= value {
             if value <= most {
                 return Value {

@@ -39,7 +39,7 @@ pub struct Reading {
 fn named(s: &[u8], at: usize, w: &[u8], x: u32, other: Figure) -> Figure
     ensures { λ r. ⌜ r ≡ onPlace (afterAt (now (s .entry)) at (now (w .entry))) (λ p. Is x p) other ⌝ }
 {
-    match figures::after(s, at, w) {
+    match words::after(s, at, w) {
         Place::At(p) => Figure::Is(x, p),
         Place::Nowhere => other,
     }
@@ -62,9 +62,9 @@ fn field(s: &[u8], at: usize, form: usize) -> Figure
         return word(s, at);
     }
     if form == rows::SIGNED {
-        return figures::signed(s, at);
+        return digits::signed(s, at);
     }
-    figures::number(s, at)
+    digits::number(s, at)
 }
 
 // What stands before number j of a line.
@@ -72,9 +72,9 @@ fn mark(s: &[u8], at: usize, j: usize) -> Place
     ensures { λ r. ⌜ r ≡ afterAt (now (s .entry)) at (markOf j) ⌝ }
 {
     if j < 1 {
-        figures::after(s, at, b"=")
+        words::after(s, at, b"=")
     } else {
-        figures::after(s, at, b",")
+        words::after(s, at, b",")
     }
 }
 
@@ -83,7 +83,7 @@ fn key(s: &[u8], at: usize, letters: [u8; 8], n: usize) -> Place
     requires { ⌜ n ≤ 8 ⌝ }
     ensures { λ r. ⌜ r ≡ afterAt (now (s .entry)) at (take n letters) ⌝ }
 {
-    figures::after(s, at, &letters[0..n])
+    words::after(s, at, &letters[0..n])
 }
 
 // n numbers of a line, stored from a place on.
@@ -129,7 +129,7 @@ fn ended(s: &[u8], found: Found) -> Found
 {
     if found.good {
         let at = found.next;
-        match figures::after(s, at, b"\n") {
+        match words::after(s, at, b"\n") {
             Place::Nowhere => Found {
                 good: false,
                 next: 0,

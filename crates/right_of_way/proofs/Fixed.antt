@@ -1,20 +1,12 @@
 -- The contract of each public function of the crate fixes the reply and asks nothing: it is an equation with a definition. Assumes nothing.
 use mathlib.Core.Path.{sym, _∙_, refl}
 use Rattle.units.specs.Fixed.{Fixes, AsksNothing}
-use Rattle.right_of_way.proofs.time.Kinds as time-kinds
-use Rattle.right_of_way.proofs.time.Reads as time-reads
 use Rattle.right_of_way.proofs.worst.Kinds as worst-kinds
 use Rattle.right_of_way.proofs.worst.Reads as worst-reads
 use Rattle.right_of_way.proofs.line16.Kinds as line16-kinds
 use Rattle.right_of_way.proofs.line16.Reads as line16-reads
 use Rattle.right_of_way.proofs.track_fits.Kinds as track-fits-kinds
 use Rattle.right_of_way.proofs.track_fits.Reads as track-fits-reads
-
-pub time-fixed : Fixes 0 time-kinds.ps time-kinds.r time-reads.Learnt
-time-fixed κs a z z′ w w′ p q = (p ∙ sym q, refl)
-
-pub time-open : AsksNothing 0 time-kinds.ps time-reads.Asked
-time-open κs a = tt
 
 pub worst-fixed : Fixes 0 worst-kinds.ps worst-kinds.r worst-reads.Learnt
 worst-fixed κs a z z′ w w′ p q = (p ∙ sym q, refl)

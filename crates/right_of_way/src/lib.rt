@@ -1,44 +1,19 @@
 // The right-of-way transfer, lines 4 to 16: the phase that keeps vehicles longest, the one that keeps pedestrians longest, and the larger time.
 ghost use mathlib.Core.Path.{_≡_};
 ghost use lib.ListN.{take};
-ghost use Rattle.transfer.specs.Transfer.{vehicleTime, pedestrianTime, timeOf, worseOf, worstOf, line16, trackFits};
+ghost use Rattle.transfer.specs.Transfer.{worseOf, worstOf, line16, trackFits};
 use sheet::Phase;
 use transfer::Users;
 use units::Tenths;
 
-fn vehicle_time(phase: Phase) -> Tenths
-    ensures { λ r. ⌜ r ≡ vehicleTime phase ⌝ }
-{
-    Tenths(phase.green as u64 + phase.other as u64 + phase.yellow as u64 + phase.red as u64)
-}
-
-fn pedestrian_time(phase: Phase) -> Tenths
-    ensures { λ r. ⌜ r ≡ pedestrianTime phase ⌝ }
-{
-    let own = phase.walk as u64 + phase.clearance as u64;
-    if phase.mode == 0 {
-        return Tenths(0);
-    }
-    if phase.mode == 1 {
-        return Tenths(own + phase.yellow as u64 + phase.red as u64);
-    }
-    Tenths(own)
-}
-
-// How long a phase keeps its vehicles, or its pedestrians, once it is asked to end.
-pub fn time(of: Users, phase: Phase) -> Tenths
-    ensures { λ r. ⌜ r ≡ timeOf of phase ⌝ }
-{
-    match of {
-        Users::Vehicles => vehicle_time(phase),
-        Users::Pedestrians => pedestrian_time(phase),
-    }
-}
-
 fn worse(of: Users, p: Phase, q: Phase) -> Phase
     ensures { λ r. ⌜ r ≡ worseOf of p q ⌝ }
 {
-    if time(of, p).0 < time(of, q).0 { q } else { p }
+    if phase_time::time(of, p).0 < phase_time::time(of, q).0 {
+        q
+    } else {
+        p
+    }
 }
 
 // The phase of the first `count` with the largest time, on a tie the first; the zero phase where no time is above 0.
@@ -59,8 +34,8 @@ pub fn worst(of: Users, phases: [Phase; 8], count: u32) -> Phase
 pub fn line16(phases: [Phase; 8], count: u32) -> Tenths
     ensures { λ r. ⌜ r ≡ line16 (take count phases) ⌝ }
 {
-    let l09 = time(Users::Vehicles, worst(Users::Vehicles, phases, count));
-    let l15 = time(Users::Pedestrians, worst(Users::Pedestrians, phases, count));
+    let l09 = phase_time::time(Users::Vehicles, worst(Users::Vehicles, phases, count));
+    let l15 = phase_time::time(Users::Pedestrians, worst(Users::Pedestrians, phases, count));
     Tenths(units::larger(l09.0, l15.0))
 }
 

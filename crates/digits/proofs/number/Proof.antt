@@ -1,13 +1,13 @@
--- `figures::number` meets its contract: at each turn the digits left make the same number. Assumes nothing.
+-- `digits::number` meets its contract: at each turn the digits left make the same number. Assumes nothing.
 use borrow.Author.Needs.{needs}
 use native.Mathlib.Omega.{arith}
 use Prim.Native.Nat.{_≤_, _<_, _-_}
 use mathlib.Core.Path.{_≡_, sym, _∙_}
 use lib.ListN.{length, drop}
 use Rattle.figures.specs.Figures.{more, number}
 use Rattle.figures.proofs.Cases.{more-out, more-stop, more-zero, more-long, more-step, number-out, number-bad, number-step}
-use Rattle.figures.proofs.number.Statement.{statement}
-use Rattle.figures.proofs.number.Tie as tie
+use Rattle.digits.proofs.number.Statement.{statement}
+use Rattle.digits.proofs.number.Tie as tie
 
 abbrev Inv-loop : tie.InvT-loop
 Inv-loop s at first v₀ i₀ v i = (i ≤ length s) × (v < 1000000) × (more v i (drop i s) ≡ number at (drop at s))

@@ -1,9 +1,9 @@
--- `figures::digit` meets its contract, branch by branch. Assumes nothing.
+-- `digits::digit` meets its contract, branch by branch. Assumes nothing.
 use borrow.Author.Needs.{needs}
 use Rattle.units.proofs.Steps.{steps}
 use Rattle.figures.specs.Figures.{digitOf}
-use Rattle.figures.proofs.digit.Statement.{statement}
-use Rattle.figures.proofs.digit.Tie as tie
+use Rattle.digits.proofs.digit.Statement.{statement}
+use Rattle.digits.proofs.digit.Tie as tie
 
 returns : tie.Need-returns
 unfolding digitOf

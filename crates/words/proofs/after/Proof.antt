@@ -1,13 +1,13 @@
--- `figures::after` meets its contract: at each turn the rest of the word decides as the whole word does. Assumes nothing.
+-- `words::after` meets its contract: at each turn the rest of the word decides as the whole word does. Assumes nothing.
 use borrow.Author.Needs.{needs}
 use native.Mathlib.Omega.{arith}
 use Prim.Native.Nat.{_+_, _-_}
 use mathlib.Core.Path.{_≡_, refl, sym, _∙_}
 use lib.ListN.{length, drop}
 use Rattle.figures.specs.Figures.{after}
 use Rattle.figures.proofs.Cases.{after-end, after-out, after-ne, after-step}
-use Rattle.figures.proofs.after.Statement.{statement}
-use Rattle.figures.proofs.after.Tie as tie
+use Rattle.words.proofs.after.Statement.{statement}
+use Rattle.words.proofs.after.Tie as tie
 
 abbrev Inv-loop : tie.InvT-loop
 Inv-loop s at w i₀ p₀ i p = (p ≡ at + i) × (after p (drop i w) (drop p s) ≡ after at w (drop at s))

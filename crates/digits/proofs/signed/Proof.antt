@@ -1,13 +1,13 @@
--- `figures::signed` meets its contract: by the minus, then by the number. Assumes nothing.
+-- `digits::signed` meets its contract: by the minus, then by the number. Assumes nothing.
 use borrow.Author.Needs.{needs}
 use native.Mathlib.Omega.{arith}
 use mathlib.Core.Path.{refl, sym, _∙_}
 use borrow.Author.Tests.{le-ltb, lt-ltb}
 use Rattle.units.specs.Numbers.{pick}
 use Rattle.figures.specs.Figures.{signedAt}
 use Rattle.figures.proofs.Small.{number-small}
-use Rattle.figures.proofs.signed.Statement.{statement}
-use Rattle.figures.proofs.signed.Tie as tie
+use Rattle.digits.proofs.signed.Statement.{statement}
+use Rattle.digits.proofs.signed.Tie as tie
 
 slice-aggregate-after : tie.Need-slice-aggregate-after
 slice-aggregate-after c = search needs

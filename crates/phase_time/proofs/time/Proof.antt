@@ -1,8 +1,8 @@
--- `right_of_way::time` meets its contract: each arm calls the function of its own time. Assumes nothing.
+-- `phase_time::time` meets its contract: each arm calls the function of its own time. Assumes nothing.
 use borrow.Author.Needs.{needs}
 use Rattle.transfer.specs.Transfer.{timeOf}
-use Rattle.right_of_way.proofs.time.Statement.{statement}
-use Rattle.right_of_way.proofs.time.Tie as tie
+use Rattle.phase_time.proofs.time.Statement.{statement}
+use Rattle.phase_time.proofs.time.Tie as tie
 
 enum-told : tie.Need-enum-told
 enum-told c = search needs

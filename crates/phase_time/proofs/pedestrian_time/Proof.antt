@@ -1,9 +1,9 @@
--- `right_of_way::pedestrian_time` meets its contract: its two tests of the mode are the definition's. Assumes nothing.
+-- `phase_time::pedestrian_time` meets its contract: its two tests of the mode are the definition's. Assumes nothing.
 use borrow.Author.Needs.{needs}
 use Rattle.units.proofs.Steps.{steps}
 use Rattle.transfer.specs.Transfer.{pedestrianTime}
-use Rattle.right_of_way.proofs.pedestrian_time.Statement.{statement}
-use Rattle.right_of_way.proofs.pedestrian_time.Tie as tie
+use Rattle.phase_time.proofs.pedestrian_time.Statement.{statement}
+use Rattle.phase_time.proofs.pedestrian_time.Tie as tie
 
 cast-own : tie.Need-cast-own
 cast-own c = search needs
