@@ -1,38 +1,185 @@
-// Whether a sheet is accepted: refusals 2 to 6 line by line, then 7 to 10 on the whole.
+// Whether a sheet is accepted: refusals 2 to 6 line by line, then 7 to 10 on the whole. The lines are looked at where the sheet has their values, in the order and
+// with the ranges of the table of lines.
 ghost use mathlib.Core.Path.{_≡_};
-ghost use Rattle.faults.specs.Lines.{linesFault};
+ghost use Prim.Native.Nat.{_+_, _-_, _≤_, _<_};
+ghost use lib.Dec.{eqb};
+ghost use Rattle.units.specs.Numbers.{pick, both};
+ghost use Rattle.sheet.specs.Refusals.{orElse};
+ghost use Rattle.rows.specs.Table.{inRange, rangeOf, rowFor, rowCount, firstPhase, firstPoint, mostPhases, mostPoints};
+ghost use Rattle.numbers.specs.Flat.{flatOf};
+ghost use Rattle.faults.specs.Lines.{startsAtZero, pointRises, faultFrom};
 ghost use Rattle.faults.specs.Whole.{acceptOf};
+ghost use Rattle.faults.proofs.Accepted.{afterPhases, between};
+ghost use Rattle.faults.proofs.Values.{absentPhases, oneFault, onesOf, pointLine};
+use ranges::fits;
+use rows::FIRST_POINT;
+use rows::table;
+use rows::table::MOST_PHASES;
+use rows::table::MOST_POINTS;
+use rows::table::SINGLE_ROW;
+use rows::table::TRACK_ROW;
 use sheet::Answer;
+use sheet::Point;
+use sheet::Refusal;
 use sheet::Sheet;
 
-// The first fault of the lines that the numbers make.
-pub fn lines_fault(numbers: &[u32; rows::NUMBERS]) -> Answer
-    ensures { λ r. ⌜ r ≡ linesFault (now (numbers .entry)) ⌝ }
+// The line of a row where so many rows before it are no lines of the text.
+fn line_of(row: usize, absent: u32) -> u32
+    requires { ⌜ (row < rowCount) × (absent ≤ row) ⌝ }
+    ensures { λ r. ⌜ r ≡ row + 1 - absent ⌝ }
 {
-    let mut row: usize = 0;
-    let mut line: u32 = 1;
-    while row < rows::ROWS {
-        if places::present(numbers, row) {
-            let fault = row_fault::row_fault(numbers, row, line);
-            if answers::is_fine(fault) {
-                line += 1;
-                row += 1;
-            } else {
-                return fault;
-            }
+    (row + 1) as u32 - absent
+}
+
+// The first fault, where the next row has one number, x, and all rows before it are lines.
+fn next(fault: Answer, row: usize, x: u32) -> Answer
+    requires { ⌜ row < rowCount ⌝ }
+    ensures { λ r. ⌜ r ≡ orElse fault (oneFault row x 0) ⌝ }
+{
+    let line = line_of(row, 0);
+    let inside = fits(row, 0, x);
+    answers::or_else(
+        fault,
+        answers::refuse_unless(inside, Refusal::OutOfRange, line),
+    )
+}
+
+// The rows before the phases. A vehicle is never out of its range.
+fn head_fault(s: Sheet) -> Answer
+    ensures { λ r. ⌜ r ≡ faultFrom (flatOf s) firstPhase 0 1 ⌝ }
+{
+    let none = Answer::Fine;
+    let issue = next(none, table::ISSUE, s.issue);
+    let grade = next(issue, table::GRADE, to_numbers::grade_number(s.grade));
+    let l01 = next(grade, table::L01, s.l01);
+    let l02 = next(l01, table::L02, s.l02);
+    next(l02, table::PHASES, s.phase_count)
+}
+
+// How many rows of one number stand past the track, and their first fault.
+const SINGLES: usize = FIRST_POINT - SINGLE_ROW;
+
+fn singles_fault(numbers: [u32; SINGLES], absent: u32) -> Answer
+    requires { ⌜ absent ≤ mostPhases ⌝ }
+    ensures { λ r. ⌜ r ≡ onesOf numbers (afterPhases + 1) absent ⌝ }
+{
+    let mut i: usize = 0;
+    while i < SINGLES {
+        if fits(SINGLE_ROW + i, 0, numbers[i]) {
+            i += 1;
         } else {
-            row += 1;
+            return Answer::Refused(Refusal::OutOfRange, line_of(SINGLE_ROW + i, absent));
         }
     }
     Answer::Fine
+}
+
+fn track_in(yellow: u32, red: u32) -> bool
+    ensures { λ r. ⌜ r ≡ both (inRange (rangeOf (rowFor "track") 0) yellow) (inRange (rangeOf (rowFor "track") 1) red) ⌝ }
+{
+    if fits(TRACK_ROW, 0, yellow) {
+        fits(TRACK_ROW, 1, red)
+    } else {
+        false
+    }
+}
+
+// The rows from the track to the number of points.
+fn middle_fault(s: Sheet, absent: u32) -> Answer
+    requires { ⌜ absent ≤ mostPhases ⌝ }
+    ensures { λ r. ⌜ r ≡ faultFrom (flatOf s) between afterPhases (afterPhases + 1 - absent) ⌝ }
+{
+    let line = line_of(TRACK_ROW, absent);
+    let track = answers::refuse_unless(
+        track_in(s.track_yellow, s.track_red),
+        Refusal::OutOfRange,
+        line,
+    );
+    let numbers = [
+        s.l18,
+        s.l19,
+        s.l20,
+        s.l28,
+        s.l30,
+        s.l31,
+        s.l33,
+        s.l37,
+        s.l39,
+        s.l47,
+        s.l56,
+        s.l57,
+        s.l58,
+        s.point_count,
+    ];
+    answers::or_else(track, singles_fault(numbers, absent))
+}
+
+fn point_in(p: Point) -> bool
+    ensures { λ r. ⌜ r ≡ both (inRange (rangeOf firstPoint 0) (p .feet)) (inRange (rangeOf firstPoint 1) (p .tenths)) ⌝ }
+{
+    if fits(FIRST_POINT, 0, p.feet) {
+        fits(FIRST_POINT, 1, p.tenths)
+    } else {
+        false
+    }
+}
+
+// Point i, p, after the point `before`.
+fn point_line(i: usize, before: Point, p: Point, absent: u32) -> Answer
+    requires { ⌜ (i < mostPoints) × (absent ≤ mostPhases) ⌝ }
+    ensures { λ r. ⌜ r ≡ pointLine (pick (eqb i 0) (startsAtZero p) (pointRises before p)) p (firstPoint + i + 1 - absent) ⌝ }
+{
+    let line = line_of(FIRST_POINT + i, absent);
+    let inside = answers::refuse_unless(point_in(p), Refusal::OutOfRange, line);
+    let rises = entry_rules::point_fits(i, before, p);
+    answers::or_else(
+        inside,
+        answers::refuse_unless(rises, Refusal::PointsDontRise, line),
+    )
+}
+
+fn points_fault(s: Sheet, absent: u32) -> Answer
+    requires { ⌜ absent ≤ mostPhases ⌝ }
+    ensures { λ r. ⌜ r ≡ faultFrom (flatOf s) mostPoints firstPoint (firstPoint + 1 - absent) ⌝ }
+{
+    let points = s.points;
+    let n = units::smaller(s.point_count as u64, MOST_POINTS as u64) as usize;
+    let mut before = zeros::zero_point();
+    let mut i: usize = 0;
+    while i < n {
+        let p = points[i];
+        let fault = point_line(i, before, p, absent);
+        if answers::is_fine(fault) {
+            before = p;
+            i += 1;
+        } else {
+            return fault;
+        }
+    }
+    Answer::Fine
+}
+
+// How many rows of phases are past the count.
+fn absent_phases(count: u32) -> u32
+    ensures { λ r. ⌜ r ≡ absentPhases count ⌝ }
+{
+    let listed = units::smaller(count as u64, MOST_PHASES as u64);
+    (MOST_PHASES as u64 - listed) as u32
 }
 
 // The answer to a sheet handed over as values.
 pub fn accept(s: Sheet) -> Answer
     ensures { λ r. ⌜ r ≡ acceptOf s ⌝ }
 {
-    let numbers = to_numbers::flat(s);
-    let lines = lines_fault(&numbers);
+    let absent = absent_phases(s.phase_count);
+    let head = head_fault(s);
+    let phases = phase_lines::phases_fault(s);
+    let middle = middle_fault(s, absent);
+    let points = points_fault(s, absent);
+    let lines = answers::or_else(
+        head,
+        answers::or_else(phases, answers::or_else(middle, points)),
+    );
     let whole = whole_fault::whole_fault(s);
     answers::or_else(lines, whole)
 }

@@ -100,10 +100,10 @@ entry : {A : Type 0} (P : A → Type 0) (xs : List A) (d : A) (n : ℕ) → n �
 entry P xs d n fits a i h = rw (getD-take n xs i d h) at (all-in P (take n xs) d a i (rw (length-take-le n xs fits) h))
 
 -- the first row after the phases, and how many stand between them and the points
-abbrev afterPhases : ℕ
+abbrev pub afterPhases : ℕ
 afterPhases = firstPhase + mostPhases
 
-abbrev between : ℕ
+abbrev pub between : ℕ
 between = firstPoint - afterPhases
 
 phase-counted : (v : List ℕ) (i : ℕ) → i < mostPhases → present v (firstPhase + i) ≡ true → i < getD v (placeFor "phases") 0
@@ -189,7 +189,7 @@ vehicle-range Bus = up-to (omega arith)
 vehicle-range Wb50 = up-to (omega arith)
 
 -- n rows from `row` on that have no rule but their ranges
-abbrev NoRule : ℕ → Type 0
+abbrev pub NoRule : ℕ → Type 0
 NoRule row = (v : List ℕ) (line : ℕ) → ruleFault v row line ≡ Fine
 
 abbrev Plain : List ℕ → ℕ → ℕ → Type 0
@@ -209,10 +209,10 @@ plain v (suc n) row none w (suc i) h =
     (w .1) i (omega arith))
 
 -- a row whose kind is neither a phase nor a point
-unruled : ℕ → Bool
+unfoldable pub unruled : ℕ → Bool
 unruled row = pick (eqb (kindOf row) phaseKind) false (pick (eqb (kindOf row) pointKind) false true)
 
-no-rule : (row : ℕ) → T (unruled row) → NoRule row
+pub no-rule : (row : ℕ) → T (unruled row) → NoRule row
 unfolding ruleFault unruled pick
 no-rule row t v line =
     split (eqb (kindOf row) phaseKind)

@@ -1,4 +1,5 @@
 pub mod Along
+pub mod Values
 pub mod Rows
 pub mod Rules
 pub mod Sound

@@ -1,16 +1,17 @@
 // Whether the numbers of a row are in their ranges.
 ghost use mathlib.Core.Path.{_≡_};
 ghost use Prim.Native.Nat.{_<_};
+ghost use Rattle.rows.specs.Facts.{factsOf};
 ghost use Rattle.rows.specs.Table.{rowCount, rangesOf, rangeOf, widthOf, placeOf, inRange, inRanges};
+use rows::Key;
 
-// The least of number j of a row: the first one's stands with its key.
-fn least(row: usize, j: usize) -> u32
-    requires { ⌜ (row < rowCount) × (j < widthOf row) ⌝ }
+// The least of number j of a row, where `first` is that of the first number.
+fn least(row: usize, j: usize, first: u32) -> u32
+    requires { ⌜ (row < rowCount) × (j < widthOf row) × (first ≡ rangeOf row 0 .least) ⌝ }
     ensures { λ r. ⌜ r ≡ rangeOf row j .least ⌝ }
 {
     if j == 0 {
-        let key = rows::facts(row);
-        return key.3;
+        return first;
     }
     if row < rows::table::TRACK_ROW {
         if j == 3 {
@@ -22,13 +23,12 @@ fn least(row: usize, j: usize) -> u32
 }
 
 // The most of it.
-fn most(row: usize, j: usize) -> u32
-    requires { ⌜ (row < rowCount) × (j < widthOf row) ⌝ }
+fn most(row: usize, j: usize, first: u32) -> u32
+    requires { ⌜ (row < rowCount) × (j < widthOf row) × (first ≡ rangeOf row 0 .most) ⌝ }
     ensures { λ r. ⌜ r ≡ rangeOf row j .most ⌝ }
 {
     if j == 0 {
-        let key = rows::facts(row);
-        return key.4;
+        return first;
     }
     if row < rows::table::TRACK_ROW {
         if j < 3 {
@@ -48,30 +48,42 @@ fn most(row: usize, j: usize) -> u32
     9999
 }
 
-// x is in the range of number j of a row.
-fn in_range(row: usize, j: usize, x: u32) -> bool
-    requires { ⌜ (row < rowCount) × (j < widthOf row) ⌝ }
+// x is in the range of number j of a row, which has that key.
+fn in_range(row: usize, j: usize, key: Key, x: u32) -> bool
+    requires { ⌜ (row < rowCount) × (j < widthOf row) × (key ≡ factsOf row) ⌝ }
     ensures { λ r. ⌜ r ≡ inRange (rangeOf row j) x ⌝ }
 {
-    if least(row, j) <= x {
-        x <= most(row, j)
+    if least(row, j, key.3) <= x {
+        x <= most(row, j, key.4)
     } else {
         false
     }
 }
 
-// Each number of a row is in its range.
+// x is in the range of number j of a row; where the row has no such number, only 0 is.
+pub fn fits(row: usize, j: usize, x: u32) -> bool
+    ensures { λ r. ⌜ r ≡ inRange (rangeOf row j) x ⌝ }
+{
+    if j < places::width(row) {
+        let key = rows::facts(row);
+        return in_range(row, j, key, x);
+    }
+    x <= 0
+}
+
+// Each number of a row is in its range. The key is looked up once.
 pub fn in_ranges(numbers: &[u32; rows::NUMBERS], row: usize) -> bool
     ensures { λ r. ⌜ r ≡ inRanges (now (numbers .entry)) (placeOf row) (rangesOf row) ⌝ }
 {
     if rows::ROWS <= row {
         return true;
     }
+    let key = rows::facts(row);
     let at = places::place(row);
     let n = places::width(row);
     let mut j: usize = 0;
     while j < n {
-        if in_range(row, j, numbers[at + j]) {
+        if in_range(row, j, key, numbers[at + j]) {
             j += 1;
         } else {
             return false;

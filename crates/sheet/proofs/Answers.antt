@@ -18,6 +18,16 @@ unfolding orElse
 bad-or Fine b e = never (sym e)
 bad-or (Refused r l) b e = refl
 
+pub or-or : (a b c : Answer) → orElse a (orElse b c) ≡ orElse (orElse a b) c
+unfolding orElse
+or-or Fine b c = refl
+or-or (Refused r l) b c = refl
+
+pub or-fine : (a : Answer) → orElse a Fine ≡ a
+unfolding orElse
+or-fine Fine = refl
+or-fine (Refused r l) = refl
+
 pub is-fine : (a : Answer) → isFine a ≡ true → a ≡ Fine
 is-fine Fine e = refl
 is-fine (Refused r l) e = never e

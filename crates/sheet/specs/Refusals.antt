@@ -1,5 +1,5 @@
 -- "Refusal numbers": the paper's number of each refusal, and what an answer says.
-use Prim.Native.Nat.{ℕ}
+use Prim.Native.Nat.{ℕ, _+_, _*_}
 use mathlib.Core.Bool.{Bool, true, false}
 use Rattle.sheet.specs.declared.Refusal.{Refusal}
 use Rattle.sheet.specs.declared.Refusal.the-variants.{Malformed, OutOfRange, PhasesDontRise, PointsDontRise, PedestriansInModeZero, ClearanceTooShort, RelocationBeyondStorage, WarningTooShort, BeyondLastPoint, TrackLongerThanTransfer, NoRoom, UnitUnfit, LoadNotNow, IssueNotNewer, CommandNotAllowed}
@@ -49,6 +49,10 @@ answerNumber (Refused r l) = numberOf r
 abbrev pub answerLine : Answer → ℕ
 answerLine Fine = 0
 answerLine (Refused r l) = l
+
+-- both as one number, for other languages: 2^32 times the number, and the line; 0 where it is fine
+abbrev pub codeOf : Answer → ℕ
+codeOf a = 4294967296 * answerNumber a + answerLine a
 
 -- "The first faulty line in file order decides": the first of two answers that is a refusal
 unfoldable pub orElse : Answer → Answer → Answer

@@ -25,7 +25,8 @@ fn vehicle_number(vehicle: Vehicle) -> u32
     }
 }
 
-fn grade_number(grade: i16) -> u32
+// A grade as its number in the table.
+pub fn grade_number(grade: i16) -> u32
     ensures { λ r. ⌜ r ≡ gradeNumber grade ⌝ }
 {
     let w = grade as i32;

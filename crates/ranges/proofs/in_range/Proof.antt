@@ -1,15 +1,21 @@
 -- `ranges::in_range` meets its contract: the ends are the printed ones. Assumes nothing.
+use mathlib.Core.Path.{ap}
+use Rattle.rows.specs.declared.table.Key.{Key}
+use Rattle.rows.specs.Facts.{factsOf}
 use Rattle.rows.specs.Table.{rangeOf}
 use Rattle.ranges.proofs.Ranges.{too-small, large-enough}
-use borrow.Author.Needs.{needs}
 use Rattle.ranges.proofs.in_range.Statement.{statement}
 use Rattle.ranges.proofs.in_range.Tie as tie
 
 least-requires : tie.Need-least-requires
-least-requires c κs = search needs
+unfolding factsOf
+least-requires c κs =
+    (c .pre .0, c .pre .1, ap (λ (k : Key). k .3) (c .pre .2))
 
 most-requires : tie.Need-most-requires
-most-requires c κs = search needs
+unfolding factsOf
+most-requires c κs =
+    (c .before .before .pre .0, c .before .before .pre .1, ap (λ (k : Key). k .4) (c .before .before .pre .2))
 
 returns : tie.Need-returns
 returns c =

@@ -11,15 +11,18 @@ use Rattle.ranges.proofs.in_ranges.Statement.{statement}
 use Rattle.ranges.proofs.in_ranges.Tie as tie
 
 abbrev Inv-loop : tie.InvT-loop
-Inv-loop numbers row at n j₀ j = (j ≤ n) × (inRanges numbers (at + j) (drop j (rangesOf row)) ≡ inRanges numbers (placeOf row) (rangesOf row))
+Inv-loop numbers row key at n j₀ j = (j ≤ n) × (inRanges numbers (at + j) (drop j (rangesOf row)) ≡ inRanges numbers (placeOf row) (rangesOf row))
 
 abbrev μ-loop : tie.MeasureT-loop
-μ-loop numbers row at n j₀ j = n - j
+μ-loop numbers row key at n j₀ j = n - j
 
 returns : tie.Need-returns Inv-loop μ-loop
 unfolding inRanges
 returns c =
     rw (ranges-past (c .before .args .row) (c .if1 .taken))
+
+facts-requires : tie.Need-facts-requires Inv-loop μ-loop
+facts-requires c κs = search needs
 
 place-requires : tie.Need-place-requires Inv-loop μ-loop
 place-requires c κs = search needs
@@ -29,19 +32,19 @@ width-requires c κs = search needs
 
 loop-holds : tie.Need-loop-holds Inv-loop μ-loop
 loop-holds c =
-    let e : c .before .place .result + 0 ≡ placeOf (c .before .before .before .args .row) = omega (arith, c .before .place .ensures) in (omega arith, rw e refl)
+    let e : c .before .place .result + 0 ≡ placeOf (c .before .before .before .before .args .row) = omega (arith, c .before .place .ensures) in (omega arith, rw e refl)
 
 add-in-range : tie.Need-add-in-range Inv-loop μ-loop
 add-in-range c =
-    omega (arith, place-room (c .before .before .before .before .before .args .row) (omega arith), c .before .before .before .place .ensures, c .before .before .width .ensures)
+    omega (arith, place-room (c .before .before .before .before .before .before .args .row) (omega arith), c .before .before .before .place .ensures, c .before .before .width .ensures)
 
 mul-in-range : tie.Need-mul-in-range Inv-loop μ-loop
 mul-in-range c =
-    omega (arith, place-room (c .before .before .before .before .before .args .row) (omega arith), c .before .before .before .place .ensures, c .before .before .width .ensures)
+    omega (arith, place-room (c .before .before .before .before .before .before .args .row) (omega arith), c .before .before .before .place .ensures, c .before .before .width .ensures)
 
 element-copy-out-in-range : tie.Need-element-copy-out-in-range Inv-loop μ-loop
 element-copy-out-in-range c =
-    omega (arith, place-room (c .before .before .before .before .before .args .row) (omega arith), c .before .before .before .place .ensures, c .before .before .width .ensures)
+    omega (arith, place-room (c .before .before .before .before .before .before .args .row) (omega arith), c .before .before .before .place .ensures, c .before .before .width .ensures)
 
 in-range-requires : tie.Need-in-range-requires Inv-loop μ-loop
 in-range-requires c κs = search needs
@@ -55,17 +58,17 @@ loop-less c = search needs
 loop-again : tie.Need-loop-again Inv-loop μ-loop
 unfolding widthOf
 loop-again c =
-    (omega arith, sym (in-step (c .before .before .before .before .before .before .before .before .args .numbers .now) (c .before .before .before .before .before .before .place .result) (rangesOf (c .before .before .before .before .before .before .before .before .args .row)) (c .before .before .before .before .loop .j) (omega (arith, c .before .before .before .before .before .width .ensures)) (sym (c .before .in-range .ensures) ∙ c .if2 .taken)) ∙ c .before .before .before .before .loop .inv .1)
+    (omega arith, sym (in-step (c .before .before .before .before .before .before .before .before .before .args .numbers .now) (c .before .before .before .before .before .before .place .result) (rangesOf (c .before .before .before .before .before .before .before .before .before .args .row)) (c .before .before .before .before .loop .j) (omega (arith, c .before .before .before .before .before .width .ensures)) (sym (c .before .in-range .ensures) ∙ c .if2 .taken)) ∙ c .before .before .before .before .loop .inv .1)
 
 returns-2 : tie.Need-returns-2 Inv-loop μ-loop
 unfolding widthOf
 returns-2 c =
-    sym (in-stop (c .before .before .before .before .before .before .before .before .args .numbers .now) (c .before .before .before .before .before .before .place .result) (rangesOf (c .before .before .before .before .before .before .before .before .args .row)) (c .before .before .before .before .loop .j) (omega (arith, c .before .before .before .before .before .width .ensures)) (sym (c .before .in-range .ensures) ∙ c .if2 .left)) ∙ c .before .before .before .before .loop .inv .1
+    sym (in-stop (c .before .before .before .before .before .before .before .before .before .args .numbers .now) (c .before .before .before .before .before .before .place .result) (rangesOf (c .before .before .before .before .before .before .before .before .before .args .row)) (c .before .before .before .before .loop .j) (omega (arith, c .before .before .before .before .before .width .ensures)) (sym (c .before .in-range .ensures) ∙ c .if2 .left)) ∙ c .before .before .before .before .loop .inv .1
 
 returns-3 : tie.Need-returns-3 Inv-loop μ-loop
 unfolding widthOf
 returns-3 c =
-    sym (in-end (c .before .before .before .before .before .args .numbers .now) (c .before .before .before .place .result) (rangesOf (c .before .before .before .before .before .args .row)) (c .before .loop .j) (omega (arith, c .before .before .width .ensures))) ∙ c .before .loop .inv .1
+    sym (in-end (c .before .before .before .before .before .before .args .numbers .now) (c .before .before .before .place .result) (rangesOf (c .before .before .before .before .before .before .args .row)) (c .before .loop .j) (omega (arith, c .before .before .width .ensures))) ∙ c .before .loop .inv .1
 
 pub in-ranges-spec : {M : Type 1} → statement M
 in-ranges-spec =
@@ -74,6 +77,7 @@ in-ranges-spec =
     Inv-loop
     μ-loop
     returns
+    facts-requires
     place-requires
     width-requires
     loop-holds

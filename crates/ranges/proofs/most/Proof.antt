@@ -1,22 +1,15 @@
--- `ranges::most` meets its contract: the first number's stands with its key, the others by their rule. Assumes nothing.
+-- `ranges::most` meets its contract: the first number's is handed over, the others by their rule. Assumes nothing.
 use mathlib.Core.Path.{_≡_, ap, sym, _∙_}
 use Prim.Native.Nat.{ℕ}
-use Rattle.rows.specs.declared.table.Key.{Key}
 use Rattle.units.proofs.Steps.{steps}
 use Rattle.rows.specs.Table.{rangeOf}
-use Rattle.rows.specs.Facts.{factsOf}
 use Rattle.rows.proofs.Tables.{phaseMost, mostRule, most-ruled}
-use borrow.Author.Needs.{needs}
 use Rattle.ranges.proofs.most.Statement.{statement}
 use Rattle.ranges.proofs.most.Tie as tie
 
-facts-requires : tie.Need-facts-requires
-facts-requires c κs = search needs
-
 returns : tie.Need-returns
-unfolding factsOf
 returns c =
-    ap (λ (k : Key). k .4) (c .facts .ensures) ∙ ap (λ (m : ℕ). rangeOf (c .before .before .args .row) m .most) (sym (c .before .if1 .taken))
+    c .before .pre .2 ∙ ap (λ (m : ℕ). rangeOf (c .before .args .row) m .most) (sym (c .if1 .taken))
 
 returns-2 : tie.Need-returns-2
 unfolding mostRule phaseMost
@@ -51,4 +44,4 @@ returns-7 c =
 pub most-spec : {M : Type 1} → statement M
 most-spec =
     tie.close
-    (tie.spec facts-requires returns returns-2 returns-3 returns-4 returns-5 returns-6 returns-7)
+    (tie.spec returns returns-2 returns-3 returns-4 returns-5 returns-6 returns-7)

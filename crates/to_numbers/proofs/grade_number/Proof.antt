@@ -42,11 +42,11 @@ add-result c =
 
 returns : tie.Need-returns
 returns c =
-    let f = c .before .fits .grade in rw (toZ-ofZ f, toZ-ofZ (wide (c .before .args .grade) f), +ℤ-idl, toZ-ofZ (neg-fits (c .before .args .grade) f)) (down c .is)
+    let f = c .before .fits .grade in rw (toZ-ofZ f, toZ-ofZ (wide (c .before .args .grade) f), +ℤ-idl, toZ-ofZ (neg-fits (c .before .args .grade) f)) (omega (arith, down c .is))
 
 returns-2 : tie.Need-returns-2
 returns-2 c =
-    let f = c .before .fits .grade in rw (toZ-ofZ f, toZ-ofZ (wide (c .before .args .grade) f)) (climbs c .is)
+    let f = c .before .fits .grade in rw (toZ-ofZ f, toZ-ofZ (wide (c .before .args .grade) f)) (omega (arith, climbs c .is))
 
 pub grade-number-spec : {M : Type 1} → statement M
 grade-number-spec =

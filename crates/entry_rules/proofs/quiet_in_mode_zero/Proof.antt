@@ -1,8 +1,8 @@
--- `row_fault::quiet_in_mode_zero` meets its contract, branch by branch. Assumes nothing.
+-- `entry_rules::quiet_in_mode_zero` meets its contract, branch by branch. Assumes nothing.
 use Rattle.units.proofs.Steps.{steps}
 use Rattle.faults.specs.Lines.{quietInModeZero}
-use Rattle.row_fault.proofs.quiet_in_mode_zero.Statement.{statement}
-use Rattle.row_fault.proofs.quiet_in_mode_zero.Tie as tie
+use Rattle.entry_rules.proofs.quiet_in_mode_zero.Statement.{statement}
+use Rattle.entry_rules.proofs.quiet_in_mode_zero.Tie as tie
 
 returns : tie.Need-returns
 unfolding quietInModeZero

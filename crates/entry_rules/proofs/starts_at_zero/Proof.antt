@@ -1,8 +1,8 @@
--- `row_fault::starts_at_zero` meets its contract, branch by branch. Assumes nothing.
+-- `entry_rules::starts_at_zero` meets its contract, branch by branch. Assumes nothing.
 use Rattle.units.proofs.Steps.{steps}
 use Rattle.faults.specs.Lines.{startsAtZero}
-use Rattle.row_fault.proofs.starts_at_zero.Statement.{statement}
-use Rattle.row_fault.proofs.starts_at_zero.Tie as tie
+use Rattle.entry_rules.proofs.starts_at_zero.Statement.{statement}
+use Rattle.entry_rules.proofs.starts_at_zero.Tie as tie
 
 returns : tie.Need-returns
 unfolding startsAtZero

@@ -1,9 +1,9 @@
--- `row_fault::clears_yellow_and_red` meets its contract, branch by branch. Assumes nothing.
+-- `entry_rules::clears_yellow_and_red` meets its contract, branch by branch. Assumes nothing.
 use borrow.Author.Needs.{needs}
 use Rattle.units.proofs.Steps.{steps}
 use Rattle.faults.specs.Lines.{clearsYellowAndRed}
-use Rattle.row_fault.proofs.clears_yellow_and_red.Statement.{statement}
-use Rattle.row_fault.proofs.clears_yellow_and_red.Tie as tie
+use Rattle.entry_rules.proofs.clears_yellow_and_red.Statement.{statement}
+use Rattle.entry_rules.proofs.clears_yellow_and_red.Tie as tie
 
 cast-result : tie.Need-cast-result
 cast-result c = search needs

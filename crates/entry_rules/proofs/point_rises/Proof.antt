@@ -1,8 +1,8 @@
--- `row_fault::point_rises` meets its contract, branch by branch. Assumes nothing.
+-- `entry_rules::point_rises` meets its contract, branch by branch. Assumes nothing.
 use Rattle.units.proofs.Steps.{steps}
 use Rattle.faults.specs.Lines.{pointRises}
-use Rattle.row_fault.proofs.point_rises.Statement.{statement}
-use Rattle.row_fault.proofs.point_rises.Tie as tie
+use Rattle.entry_rules.proofs.point_rises.Statement.{statement}
+use Rattle.entry_rules.proofs.point_rises.Tie as tie
 
 returns : tie.Need-returns
 unfolding pointRises

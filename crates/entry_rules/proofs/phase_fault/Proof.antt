@@ -1,9 +1,9 @@
--- `row_fault::phase_fault` meets its contract: the rules in order. Assumes nothing.
+-- `entry_rules::phase_fault` meets its contract: the rules in order. Assumes nothing.
 use mathlib.Core.Path.{refl}
 use borrow.Author.Needs.{needs}
 use Rattle.faults.specs.Lines.{phaseFault}
-use Rattle.row_fault.proofs.phase_fault.Statement.{statement}
-use Rattle.row_fault.proofs.phase_fault.Tie as tie
+use Rattle.entry_rules.proofs.phase_fault.Statement.{statement}
+use Rattle.entry_rules.proofs.phase_fault.Tie as tie
 
 refuse-unless-requires : tie.Need-refuse-unless-requires
 refuse-unless-requires c κs = search needs

@@ -1,0 +1,48 @@
+-- `accept::head_fault` meets its contract: row by row, but for the vehicle. Assumes nothing.
+use mathlib.Core.Path.{_≡_, _∙_, ap}
+use mir.Syntax.{w16}
+use mir.Val.{SFits}
+use mir.Facts.{toZ-ofZ}
+use Rattle.sheet.specs.Refusals.{orElse}
+use Rattle.numbers.specs.Flat.{flatOf, gradeNumber}
+use Rattle.faults.proofs.Values.{onesAfter, head-values}
+use borrow.Author.Needs.{needs}
+use Rattle.accept.proofs.head_fault.Statement.{statement}
+use Rattle.accept.proofs.head_fault.Tie as tie
+
+next-requires : tie.Need-next-requires
+next-requires c κs = search needs
+
+grade-number-requires : tie.Need-grade-number-requires
+grade-number-requires c κs = search needs
+
+next-requires-2 : tie.Need-next-requires-2
+next-requires-2 c κs = search needs
+
+next-requires-3 : tie.Need-next-requires-3
+next-requires-3 c κs = search needs
+
+next-requires-4 : tie.Need-next-requires-4
+next-requires-4 c κs = search needs
+
+next-requires-5 : tie.Need-next-requires-5
+next-requires-5 c κs = search needs
+
+returns : tie.Need-returns
+unfolding onesAfter flatOf orElse
+returns c =
+    let f : SFits w16 (c .before .before .before .before .before .before .before .args .s .grade) = search needs in
+    let g : c .before .before .before .before .grade-number .result ≡ gradeNumber (c .before .before .before .before .before .before .before .args .s .grade) = c .before .before .before .before .grade-number .ensures ∙ ap gradeNumber (toZ-ofZ f) in
+    rw (c .next5 .ensures, c .before .next4 .ensures, c .before .before .next3 .ensures, c .before .before .before .next2 .ensures, g, c .before .before .before .before .before .before .next .ensures) (head-values (c .before .before .before .before .before .before .before .args .s))
+
+pub head-fault-spec : {M : Type 1} → statement M
+head-fault-spec =
+    tie.close
+    (tie.spec
+    next-requires
+    grade-number-requires
+    next-requires-2
+    next-requires-3
+    next-requires-4
+    next-requires-5
+    returns)
