@@ -1,20 +1,18 @@
 // A number at a place of a text, plain or with a minus.
 ghost use mathlib.Core.Path.{_≡_};
+ghost use lib.Dec.{ltb};
 ghost use Rattle.figures.specs.Figures.{digitOf, numberAt, signedAt};
 use figures::Figure;
 use figures::Place;
 
-// The value of a digit's byte, 10 for any other byte.
-fn digit(b: u8) -> u32
-    ensures { λ r. ⌜ r ≡ digitOf b ⌝ }
+// The byte is no digit, so that a number ends before it.
+fn ends(b: u8) -> bool
+    ensures { λ r. ⌜ r ≡ ltb 9 (digitOf b) ⌝ }
 {
     if b < 48 {
-        return 10;
+        return true;
     }
-    if 57 < b {
-        return 10;
-    }
-    (b - 48) as u32
+    57 < b
 }
 
 // The number that starts at a place of the text.
@@ -24,15 +22,15 @@ pub fn number(s: &[u8], at: usize) -> Figure
     if s.len() <= at {
         return Figure::Bad;
     }
-    let first = digit(s[at]);
-    if 9 < first {
+    let first = s[at];
+    if ends(first) {
         return Figure::Bad;
     }
-    let mut v = first;
+    let mut v = (first - 48) as u32;
     let mut i = at + 1;
     while i < s.len() {
-        let d = digit(s[i]);
-        if 9 < d {
+        let b = s[i];
+        if ends(b) {
             return Figure::Is(v, i);
         }
         if v == 0 {
@@ -41,7 +39,7 @@ pub fn number(s: &[u8], at: usize) -> Figure
         if 99999 < v {
             return Figure::Bad;
         }
-        v = v * 10 + d;
+        v = v * 10 + (b - 48) as u32;
         i = i + 1;
     }
     Figure::Is(v, i)

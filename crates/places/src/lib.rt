@@ -1,5 +1,6 @@
 // The rows of a sheet's text by their numbers: the kind of each, where its numbers stand, how many they are, and whether the text has it.
 ghost use mathlib.Core.Path.{_≡_};
+ghost use Prim.Native.Nat.{_<_};
 ghost use Rattle.rows.specs.Table.{kindOf, widthOf, placeOf, present};
 use rows::FIRST_PHASE;
 use rows::FIRST_POINT;
@@ -70,7 +71,7 @@ pub fn width(row: usize) -> usize
 }
 
 fn wide(x: u32) -> usize
-    ensures { λ r. ⌜ r ≡ x ⌝ }
+    ensures { λ r. ⌜ (r ≡ x) × (r < 4294967296) ⌝ }
 {
     x as usize
 }
@@ -88,5 +89,5 @@ pub fn present(numbers: &[u32; NUMBERS], row: usize) -> bool
     if row < FIRST_POINT {
         return true;
     }
-    row - FIRST_POINT < wide(numbers[table::POINTS])
+    row < FIRST_POINT + wide(numbers[table::POINTS])
 }

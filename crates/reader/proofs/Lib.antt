@@ -1,3 +1,5 @@
+mod Rows
+mod Letters
 pub mod Cases
 pub mod Promised
 pub mod Fixed

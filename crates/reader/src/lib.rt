@@ -1,16 +1,18 @@
 // Reads a site sheet from its text.
 ghost use mathlib.Core.Path.{_≡_};
-ghost use Prim.Native.Nat.{ℕ, _+_, _≤_, _<_};
+ghost use Prim.Native.Nat.{ℕ, _+_, _-_, _≤_, _<_};
 ghost use mathlib.Core.List.{List};
-ghost use lib.ListN.{take};
-ghost use Rattle.rows.specs.Table.{rowCount, numberCount};
-ghost use Rattle.rows.specs.Marks.{markOf};
+ghost use mathlib.Core.Bool.{true};
+ghost use lib.ListN.{length, take};
+ghost use Rattle.rows.specs.Table.{plain, rowCount, numberCount, rangeOf, widthOf, placeOf};
+ghost use Rattle.faults.specs.Lines.{rowFault};
 ghost use Rattle.figures.specs.declared.Figure.the-variants.{Is};
 ghost use Rattle.figures.specs.Figures.{onPlace, afterAt};
-ghost use Rattle.reader.specs.Line.{wordAt, fieldAt, soFar, fields, ended, lineAt};
+ghost use Rattle.reader.specs.Line.{wordAt, fieldAt, soFar, bad, fields, ended};
 ghost use Rattle.reader.specs.Read.{step, judgedAt, endAt, linesFrom, reply, readOf};
 use figures::Figure;
 use figures::Place;
+use rows::Key;
 use rows::NUMBERS;
 use rows::ROWS;
 use sheet::Answer;
@@ -67,41 +69,50 @@ fn field(s: &[u8], at: usize, form: usize) -> Figure
     digits::number(s, at)
 }
 
-// What stands before number j of a line.
-fn mark(s: &[u8], at: usize, j: usize) -> Place
-    ensures { λ r. ⌜ r ≡ afterAt (now (s .entry)) at (markOf j) ⌝ }
-{
-    if j < 1 {
-        words::after(s, at, b"=")
-    } else {
-        words::after(s, at, b",")
-    }
-}
-
-// The place past the first n letters of a key.
+// The place past the first n letters of a key. No key has less than three, and where the text is long enough for all of them they are compared without
+// looking for its end.
 fn key(s: &[u8], at: usize, letters: [u8; 8], n: usize) -> Place
-    requires { ⌜ n ≤ 8 ⌝ }
+    requires { ⌜ (at ≤ length (now s)) × (3 ≤ n) × (n ≤ 8) ⌝ }
     ensures { λ r. ⌜ r ≡ afterAt (now (s .entry)) at (take n letters) ⌝ }
 {
-    words::after(s, at, &letters[0..n])
+    if s.len() - at < n {
+        return Place::Nowhere;
+    }
+    if s[at] != letters[0] {
+        return Place::Nowhere;
+    }
+    if s[at + 1] != letters[1] {
+        return Place::Nowhere;
+    }
+    if s[at + 2] != letters[2] {
+        return Place::Nowhere;
+    }
+    let mut i: usize = 3;
+    while i < n {
+        if s[at + i] != letters[i] {
+            return Place::Nowhere;
+        }
+        i = i + 1;
+    }
+    Place::At(at + n)
 }
 
-// n numbers of a line, stored from a place on.
-fn fields(s: &[u8], at: usize, form: usize, place: usize, n: usize, v: &mut [u32; NUMBERS]) -> Found
+// The numbers of a line after its first, stored after its place. They are all plain.
+fn rest(s: &[u8], at: usize, place: usize, n: usize, v: &mut [u32; NUMBERS]) -> Found
     requires { ⌜ place + n ≤ numberCount ⌝ }
-    ensures { λ r. ⌜ soFar (r .good) (r .next) (now (v .exit)) ≡ fields (now (s .entry)) form place n 0 at (now (v .entry)) ⌝ }
+    ensures { λ r. ⌜ soFar (r .good) (r .next) (now (v .exit)) ≡ fields (now (s .entry)) plain place (n - 1) 1 at (now (v .entry)) ⌝ }
 {
     let mut p = at;
-    let mut j: usize = 0;
+    let mut j: usize = 1;
     while j < n {
-        match mark(s, p, j) {
+        match words::after(s, p, b",") {
             Place::Nowhere => {
                 return Found {
                     good: false,
                     next: 0,
                 };
             }
-            Place::At(q) => match field(s, q, form) {
+            Place::At(q) => match digits::number(s, q) {
                 Figure::Bad => {
                     return Found {
                         good: false,
@@ -123,9 +134,32 @@ fn fields(s: &[u8], at: usize, form: usize, place: usize, n: usize, v: &mut [u32
     }
 }
 
+// n numbers of a line, stored from a place on. Only a line of one number has words or a sign.
+fn fields(s: &[u8], at: usize, form: usize, place: usize, n: usize, v: &mut [u32; NUMBERS]) -> Found
+    requires { ⌜ (place + n ≤ numberCount) × (1 ≤ n) × (1 < n → form ≡ plain) ⌝ }
+    ensures { λ r. ⌜ soFar (r .good) (r .next) (now (v .exit)) ≡ fields (now (s .entry)) form place n 0 at (now (v .entry)) ⌝ }
+{
+    match words::after(s, at, b"=") {
+        Place::Nowhere => Found {
+            good: false,
+            next: 0,
+        },
+        Place::At(q) => match field(s, q, form) {
+            Figure::Bad => Found {
+                good: false,
+                next: 0,
+            },
+            Figure::Is(x, t) => {
+                v[place] = x;
+                rest(s, t, place, n, v)
+            }
+        },
+    }
+}
+
 // What was read of a line, once its line feed is seen.
 fn ended(s: &[u8], found: Found) -> Found
-    ensures { λ r. ⌜ ((v : List ℕ) → soFar (r .good) (r .next) v ≡ ended (now (s .entry)) (soFar (found .good) (found .next) v)) ⌝ }
+    ensures { λ r. ⌜ ((v : List ℕ) → soFar (r .good) (r .next) v ≡ ended (now (s .entry)) (soFar (found .good) (found .next) v)) × (r .good ≡ true → r .next ≤ length (now (s .entry))) ⌝ }
 {
     if found.good {
         let at = found.next;
@@ -144,16 +178,13 @@ fn ended(s: &[u8], found: Found) -> Found
     }
 }
 
-// The line of a row at a place of the text.
-fn line(s: &[u8], at: usize, row: usize, v: &mut [u32; NUMBERS]) -> Found
-    requires { ⌜ row < rowCount ⌝ }
-    ensures { λ r. ⌜ soFar (r .good) (r .next) (now (v .exit)) ≡ lineAt (now (s .entry)) at row (now (v .entry)) ⌝ }
+// The line of a key at a place of the text, with n numbers.
+fn line(s: &[u8], at: usize, facts: Key, place: usize, n: usize, v: &mut [u32; NUMBERS]) -> Found
+    requires { ⌜ (at ≤ length (now s)) × (3 ≤ facts .1) × (facts .1 ≤ 8) × (place + n ≤ numberCount) × (1 ≤ n) × (1 < n → facts .2 ≡ plain) ⌝ }
+    ensures { λ r. ⌜ (soFar (r .good) (r .next) (now (v .exit)) ≡ onPlace (afterAt (now (s .entry)) at (take (facts .1) (facts .0))) (λ p. ended (now (s .entry)) (fields (now (s .entry)) (facts .2) place n 0 p (now (v .entry)))) (bad (now (v .entry)))) × (r .good ≡ true → r .next ≤ length (now (s .entry))) ⌝ }
 {
-    let facts = rows::facts(row);
     let letters = facts.0;
     let form = facts.2;
-    let place = places::place(row);
-    let n = places::width(row);
     match key(s, at, letters, facts.1) {
         Place::Nowhere => Found {
             good: false,
@@ -166,23 +197,51 @@ fn line(s: &[u8], at: usize, row: usize, v: &mut [u32; NUMBERS]) -> Found
     }
 }
 
-// The same with its fault, by its line number.
-fn judged(s: &[u8], at: usize, row: usize, number: u32, v: &mut [u32; NUMBERS]) -> Reached
-    requires { ⌜ row < rowCount ⌝ }
-    ensures { λ r. ⌜ step (r .answer) (r .next) (now (v .exit)) ≡ judgedAt (now (s .entry)) at row number (now (v .entry)) ⌝ }
+// The fault of a row with n numbers, the first of them from `least` to `most`. A line of one number has no rule but its range.
+fn fault(
+    v: &[u32; NUMBERS],
+    row: usize,
+    number: u32,
+    place: usize,
+    n: usize,
+    least: u32,
+    most: u32,
+) -> Answer
+    requires { ⌜ (row < rowCount) × (place ≡ placeOf row) × (n ≡ widthOf row) × (least ≡ rangeOf row 0 .least) × (most ≡ rangeOf row 0 .most) ⌝ }
+    ensures { λ r. ⌜ r ≡ rowFault (now (v .entry)) row number ⌝ }
 {
-    let found = line(s, at, row, v);
+    if n == 1 {
+        let x = v[place];
+        if x < least {
+            return Answer::Refused(Refusal::OutOfRange, number);
+        }
+        if most < x {
+            return Answer::Refused(Refusal::OutOfRange, number);
+        }
+        return Answer::Fine;
+    }
+    row_fault::row_fault(v, row, number)
+}
+
+// The line of a row with its fault, by its line number. The key is looked up once.
+fn judged(s: &[u8], at: usize, row: usize, number: u32, v: &mut [u32; NUMBERS]) -> Reached
+    requires { ⌜ (row < rowCount) × (at ≤ length (now s)) ⌝ }
+    ensures { λ r. ⌜ (step (r .answer) (r .next) (now (v .exit)) ≡ judgedAt (now (s .entry)) at row number (now (v .entry))) × (r .next ≤ length (now (s .entry))) ⌝ }
+{
+    let facts = rows::facts(row);
+    let place = places::place(row);
+    let n = places::width(row);
+    let found = line(s, at, facts, place, n, v);
     if found.good {
-        let answer = row_fault::row_fault(v, row, number);
-        Reached {
+        let answer = fault(v, row, number, place, n, facts.3, facts.4);
+        return Reached {
             answer: answer,
             next: found.next,
-        }
-    } else {
-        Reached {
-            answer: Answer::Refused(Refusal::Malformed, number),
-            next: 0,
-        }
+        };
+    }
+    Reached {
+        answer: Answer::Refused(Refusal::Malformed, number),
+        next: 0,
     }
 }
 
@@ -233,21 +292,20 @@ fn reply(answer: Answer, s: Sheet) -> Reading
     ensures { λ r. ⌜ r ≡ reply answer s ⌝ }
 {
     if answers::is_fine(answer) {
-        Reading {
+        return Reading {
             answer: answer,
             sheet: s,
-        }
-    } else {
-        let zero = zeros::zero_sheet();
-        Reading {
-            answer: answer,
-            sheet: zero,
-        }
+        };
+    }
+    let zero = zeros::zero_sheet();
+    Reading {
+        answer: answer,
+        sheet: zero,
     }
 }
 
-// Reads a site sheet: refusals 1 to 6 line by line, then 7 to 10 on the whole.
-pub fn read(text: &[u8]) -> Reading
+// Refusals 1 to 6 line by line, then 7 to 10 on the whole.
+fn begun(text: &[u8]) -> Reading
     ensures { λ r. ⌜ r ≡ readOf (now (text .entry)) ⌝ }
 {
     let mut numbers = [0u32; NUMBERS];
@@ -259,4 +317,19 @@ pub fn read(text: &[u8]) -> Reading
     }
     let zero = zeros::zero_sheet();
     reply(answer, zero)
+}
+
+// Reads a site sheet. A text that does not begin with the first key is refused before any room is made for numbers.
+pub fn read(text: &[u8]) -> Reading
+    ensures { λ r. ⌜ r ≡ readOf (now (text .entry)) ⌝ }
+{
+    let first = rows::facts(0);
+    let letters = first.0;
+    match key(text, 0, letters, first.1) {
+        Place::Nowhere => {
+            let zero = zeros::zero_sheet();
+            return reply(Answer::Refused(Refusal::Malformed, 1), zero);
+        }
+        Place::At(_) => begun(text),
+    }
 }

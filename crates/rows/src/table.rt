@@ -161,34 +161,34 @@ fn head(row: usize) -> usize
     NUMBERS
 }
 
-// The key of a row; past the last row, none.
+// The key of a row; past the last row, none. Each arm returns by itself, so that a key is written where it is wanted and not picked letter by letter.
 pub fn facts(row: usize) -> Key
     ensures { λ r. ⌜ r ≡ factsOf row ⌝ }
 {
     match head(row) {
-        ISSUE => ISSUE_KEY,
-        VEHICLE => VEHICLE_KEY,
-        GRADE => GRADE_KEY,
-        L01 => L01_KEY,
-        L02 => L02_KEY,
-        PHASES => PHASES_KEY,
-        PHASE => PHASE_KEY,
-        TRACK => TRACK_KEY,
-        L18 => L18_KEY,
-        L19 => L19_KEY,
-        L20 => L20_KEY,
-        L28 => L28_KEY,
-        L30 => L30_KEY,
-        L31 => L31_KEY,
-        L33 => L33_KEY,
-        L37 => L37_KEY,
-        L39 => L39_KEY,
-        L47 => L47_KEY,
-        L56 => L56_KEY,
-        L57 => L57_KEY,
-        L58 => L58_KEY,
-        POINTS => POINTS_KEY,
-        POINT => POINT_KEY,
-        _ => NO_KEY,
+        ISSUE => return ISSUE_KEY,
+        VEHICLE => return VEHICLE_KEY,
+        GRADE => return GRADE_KEY,
+        L01 => return L01_KEY,
+        L02 => return L02_KEY,
+        PHASES => return PHASES_KEY,
+        PHASE => return PHASE_KEY,
+        TRACK => return TRACK_KEY,
+        L18 => return L18_KEY,
+        L19 => return L19_KEY,
+        L20 => return L20_KEY,
+        L28 => return L28_KEY,
+        L30 => return L30_KEY,
+        L31 => return L31_KEY,
+        L33 => return L33_KEY,
+        L37 => return L37_KEY,
+        L39 => return L39_KEY,
+        L47 => return L47_KEY,
+        L56 => return L56_KEY,
+        L57 => return L57_KEY,
+        L58 => return L58_KEY,
+        POINTS => return POINTS_KEY,
+        POINT => return POINT_KEY,
+        _ => return NO_KEY,
     }
 }

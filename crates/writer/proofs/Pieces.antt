@@ -7,7 +7,7 @@ use native.Mathlib.Omega.{arith}
 use lib.ListN.{length, getD}
 use lib.Seq.{sets-eq}
 use lib.Dec.{leb}
-use borrow.Author.Tests.{le-leb, lt-leb}
+use borrow.Author.Tests.{leb-true}
 use Rattle.units.specs.Numbers.{pick}
 use Rattle.units.proofs.Steps.{pick-yes, pick-not}
 use Rattle.sheet.specs.declared.Sheet.{Sheet}
@@ -67,23 +67,22 @@ module _ (s : Sheet) (b : List ℕ) (a : Answer) (accepted : a ≡ acceptOf s) w
     room : orElse (acceptOf s) (unless (leb (length (textOf s)) (length b)) NoRoom 0) ≡ unless (leb (length (textOf s)) (length b)) NoRoom 0
     room = ap (λ (x : Answer). orElse x (unless (leb (length (textOf s)) (length b)) NoRoom 0)) (sym accepted) ∙ fine-or a _ fine
 
-    pub write-long : {old new : List ℕ} {r : ℕ} → Put old new 0 r (textFrom v rowCount 0) → length b < r
-        → Outcome (record { answer = Refused NoRoom 0; length = 0 }) b
-    unfolding answerTo
-    write-long p h =
-        let q = rw flat at p in
-        let short : length b < length (textOf s) = omega (arith, q .place) in
-        refused-with (Refused NoRoom 0) (room ∙ fails _ _ _ (lt-leb _ _ short)) refl
+    abbrev long : ℕ
+    long = length (textFrom v rowCount 0)
 
-    pub write-done : {old new : List ℕ} {n : ℕ} → Put old new 0 n (textFrom v rowCount 0) → n ≤ length b
-        → {out : List ℕ} {r : ℕ} → Put b out 0 r (textFrom v rowCount 0) → Outcome (record { answer = Fine; length = r }) out
+    pub write-long : leb long (length b) ≡ false → Outcome (record { answer = Refused NoRoom 0; length = 0 }) b
+    unfolding answerTo
+    write-long h = refused-with (Refused NoRoom 0) (room ∙ fails _ _ _ (rw flat at h)) refl
+
+    pub write-done : leb long (length b) ≡ true → {out : List ℕ} {r : ℕ} → Put b out 0 r (textFrom v rowCount 0)
+        → Outcome (record { answer = Fine; length = r }) out
     unfolding writtenOf bytesOf answerTo
-    write-done p₀ h p =
-        let q₀ = rw flat at p₀ in
+    write-done h p =
         let q = rw flat at p in
-        let fits : length (textOf s) ≤ length b = omega (arith, q₀ .place) in
+        let t : leb (length (textOf s)) (length b) ≡ true = rw flat at h in
+        let fits : length (textOf s) ≤ length b = leb-true _ _ t in
         let z : 0 + length (textOf s) ≡ length (textOf s) = omega arith in
-        let g = ap isFine (room ∙ holds _ _ _ (le-leb _ _ fits)) in (
+        let g = ap isFine (room ∙ holds _ _ _ t) in (
           pick-yes _ _ _ _ g (λ i. record { answer = Fine; length = (q .place ∙ z) i }),
           pick-yes _ _ _ _ g (rw (q .bytes, sets-eq (textOf s) b 0 (omega arith), z) refl),
         )

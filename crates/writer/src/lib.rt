@@ -2,14 +2,19 @@
 ghost use mathlib.Core.Path.{_≡_};
 ghost use mathlib.Core.List.{[], _∷_};
 ghost use Prim.Native.Nat.{_+_, _≤_, _<_};
+ghost use lib.Dec.{leb};
 ghost use lib.ListN.{length, take};
 ghost use Rattle.rows.specs.Table.{rowCount, numberCount};
 ghost use Rattle.rows.specs.Marks.{markOf, wordOf};
 ghost use Rattle.writer.specs.Digits.{digits};
 ghost use Rattle.writer.specs.Text.{signedText, fieldText, fieldsText, rowText, textFrom};
 ghost use Rattle.writer.specs.Write.{Put, writtenOf, bytesOf};
+use longest::LONGEST;
 use rows::NUMBERS;
 use rows::ROWS;
+use rows::table;
+use rows::table::MOST_PHASES;
+use rows::table::MOST_POINTS;
 use sheet::Answer;
 use sheet::Refusal;
 use sheet::Sheet;
@@ -19,6 +24,13 @@ pub struct Written {
     pub answer: Answer,
     pub length: usize,
 }
+
+// How long the line of a phase, that of a point, and all the others together can be.
+const PHASE_LINE: usize = 62;
+
+const POINT_LINE: usize = 20;
+
+const OTHER_LINES: usize = LONGEST - PHASE_LINE * MOST_PHASES - POINT_LINE * MOST_POINTS;
 
 // One byte at a place, where the output reaches it. What is past the output's end is only counted.
 fn put(out: &mut [u8], at: usize, x: u8) -> usize
@@ -172,24 +184,43 @@ fn put_lines(out: &mut [u8], numbers: &[u32; NUMBERS]) -> usize
     p
 }
 
-// Writes a site sheet. A run over none of the output tells the text's length, so that a refusal writes no byte.
+fn wide(x: u32) -> usize
+    ensures { λ r. ⌜ (r ≡ x) × (r < 4294967296) ⌝ }
+{
+    x as usize
+}
+
+// The output has room for the text. Where it has room for the longest text with as many phases and points, nothing is counted; else a run over none of
+// the output tells the text's length, so that a refusal writes no byte.
+fn has_room(out: &mut [u8], numbers: &[u32; NUMBERS]) -> bool
+    ensures { λ r. ⌜ (r ≡ leb (length (textFrom (now (numbers .entry)) rowCount 0)) (length (now (out .entry)))) × (now (out .exit) ≡ now (out .entry)) ⌝ }
+{
+    let phases = wide(numbers[table::PHASES]);
+    let points = wide(numbers[table::POINTS]);
+    if OTHER_LINES + PHASE_LINE * phases + POINT_LINE * points <= out.len() {
+        return true;
+    }
+    let needed = put_lines(&mut out[0..0], numbers);
+    needed <= out.len()
+}
+
+// Writes a site sheet.
 pub fn write(sheet: Sheet, out: &mut [u8]) -> Written
     ensures { λ r. ⌜ (r ≡ writtenOf sheet (length (now (out .entry)))) × (now (out .exit) ≡ bytesOf sheet (now (out .entry))) ⌝ }
 {
     let answer = accept::accept(sheet);
     if answers::is_fine(answer) {
         let numbers = to_numbers::flat(sheet);
-        let needed = put_lines(&mut out[0..0], &numbers);
-        if out.len() < needed {
+        if has_room(out, &numbers) {
+            let length = put_lines(out, &numbers);
             return Written {
-                answer: Answer::Refused(Refusal::NoRoom, 0),
-                length: 0,
+                answer: Answer::Fine,
+                length: length,
             };
         }
-        let length = put_lines(out, &numbers);
         return Written {
-            answer: Answer::Fine,
-            length: length,
+            answer: Answer::Refused(Refusal::NoRoom, 0),
+            length: 0,
         };
     }
     Written {

@@ -1,8 +1,9 @@
 -- `reader::ended` meets its contract: a line feed, or a bad line. Assumes nothing.
 use mathlib.Core.Path.{_≡_, sym, _∙_, refl}
-use Rattle.units.proofs.Steps.{pick-yes, pick-not}
+use Rattle.units.proofs.Steps.{pick-yes, pick-not, never}
 use Rattle.rows.specs.Marks.{lineFeed}
 use Rattle.figures.specs.Figures.{afterAt}
+use Rattle.reader.proofs.Cases.{fed-in}
 use borrow.Author.Needs.{needs}
 use Rattle.reader.proofs.ended.Statement.{statement}
 use Rattle.reader.proofs.ended.Tie as tie
@@ -22,16 +23,16 @@ enum-known-q c = search needs
 returns : tie.Need-returns
 returns c =
     let fed : c .before .before .after .result ≡ afterAt (c .before .before .before .before .before .before .args .s .now) (c .before .before .before .before .before .before .args .found .next) lineFeed = rw (c .before .before .after .ensures) refl in
-    λ v. pick-yes _ _ _ _ (c .before .before .before .before .if1 .taken) (rw (sym fed ∙ c .enum-told .given .1) refl)
+    (λ v. pick-yes _ _ _ _ (c .before .before .before .before .if1 .taken) (rw (sym fed ∙ c .enum-told .given .1) refl), λ e. never e)
 
 returns-2 : tie.Need-returns-2
 returns-2 c =
     let fed : c .before .before .before .after .result ≡ afterAt (c .before .before .before .before .before .before .before .args .s .now) (c .before .before .before .before .before .before .before .args .found .next) lineFeed = rw (c .before .before .before .after .ensures) refl in
-    λ v. pick-yes _ _ _ _ (c .before .before .before .before .before .if1 .taken) (rw (sym fed ∙ c .before .q .given .1) refl)
+    (λ v. pick-yes _ _ _ _ (c .before .before .before .before .before .if1 .taken) (rw (sym fed ∙ c .before .q .given .1) refl), λ e. fed-in (c .before .before .before .before .before .before .before .args .s .now) (c .before .before .before .before .before .before .before .args .found .next) _ (sym fed ∙ c .before .q .given .1))
 
 returns-3 : tie.Need-returns-3
 returns-3 c =
-    λ v. pick-not _ _ _ _ (c .if1 .left) refl
+    (λ v. pick-not _ _ _ _ (c .if1 .left) refl, λ e. never (sym (c .if1 .left) ∙ e))
 
 pub ended-spec : {M : Type 1} → statement M
 ended-spec =

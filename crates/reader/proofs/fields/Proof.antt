@@ -1,91 +1,74 @@
--- `reader::fields` meets its contract: at each turn the numbers left are read as all are. Assumes nothing.
-use Prim.Native.Nat.{_-_}
-use mathlib.Core.Path.{_≡_, sym, _∙_}
-use native.Mathlib.Nat.{sub-zero}
-use Rattle.reader.specs.Line.{fields}
-use Rattle.reader.proofs.Cases.{fields-end, fields-no-mark, fields-no-number, fields-step}
+-- `reader::fields` meets its contract: the first number, then the others. Assumes nothing.
+use mathlib.Core.Path.{sym, _∙_}
+use Rattle.units.specs.Numbers.{pick}
+use Rattle.rows.specs.Marks.{markOf}
+use Rattle.reader.proofs.Cases.{first-no-mark, first-no-number, first-step}
+use native.Mathlib.Omega.{arith}
 use borrow.Author.Needs.{needs}
 use Rattle.reader.proofs.fields.Statement.{statement}
 use Rattle.reader.proofs.fields.Tie as tie
 
-abbrev Inv-loop : tie.InvT-loop
-Inv-loop s at form place n v₀ p₀ j₀ v p j = fields s form place (n - j) j p v ≡ fields s form place n 0 at v₀
+slice-aggregate-after : tie.Need-slice-aggregate-after
+slice-aggregate-after c = search needs
 
-abbrev μ-loop : tie.MeasureT-loop
-μ-loop s at form place n v₀ p₀ j₀ v p j = n - j
+after-requires : tie.Need-after-requires
+after-requires c κs = search needs
 
-loop-holds : tie.Need-loop-holds Inv-loop μ-loop
-loop-holds c =
-    rw sub-zero
-
-mark-requires : tie.Need-mark-requires Inv-loop μ-loop
-mark-requires c κs = search needs
-
-enum-told : tie.Need-enum-told Inv-loop μ-loop
+enum-told : tie.Need-enum-told
 enum-told c = search needs
 
-returns : tie.Need-returns Inv-loop μ-loop
-returns c =
-    sym (fields-no-mark (c .before .before .before .before .before .before .args .s .now) (c .before .before .before .before .before .before .args .form) (c .before .before .before .before .before .before .args .place) (c .before .before .before .before .before .before .args .n) (c .before .before .before .before .loop .j) (c .before .before .before .before .loop .p) (c .before .before .before .before .loop .v) (c .before .before .before .loop-test .taken) (sym (c .before .before .mark .ensures) ∙ c .enum-told .given .1)) ∙ c .before .before .before .before .loop .inv
-
-enum-known-q : tie.Need-enum-known-q Inv-loop μ-loop
+enum-known-q : tie.Need-enum-known-q
 enum-known-q c = search needs
 
-field-requires : tie.Need-field-requires Inv-loop μ-loop
+field-requires : tie.Need-field-requires
 field-requires c κs = search needs
 
-enum-told-2 : tie.Need-enum-told-2 Inv-loop μ-loop
+enum-told-2 : tie.Need-enum-told-2
 enum-told-2 c = search needs
 
-returns-2 : tie.Need-returns-2 Inv-loop μ-loop
-returns-2 c =
-    sym (fields-no-number (c .before .before .before .before .before .before .before .before .before .before .args .s .now) (c .before .before .before .before .before .before .before .before .before .before .args .form) (c .before .before .before .before .before .before .before .before .before .before .args .place) (c .before .before .before .before .before .before .before .before .before .before .args .n) (c .before .before .before .before .before .before .before .before .loop .j) (c .before .before .before .before .before .before .before .before .loop .p) (c .before .before .before .before .before .before .before .before .loop .v) (c .before .before .before .before .q .given .0 .0) (c .before .before .before .before .before .before .before .loop-test .taken) (sym (c .before .before .before .before .before .before .mark .ensures) ∙ c .before .before .before .before .q .given .1) (sym (c .before .before .field .ensures) ∙ c .enum-told2 .given .1)) ∙ c .before .before .before .before .before .before .before .before .loop .inv
-
-enum-known-x : tie.Need-enum-known-x Inv-loop μ-loop
+enum-known-x : tie.Need-enum-known-x
 enum-known-x c = search needs
 
-add-e : tie.Need-add-e Inv-loop μ-loop
-add-e c = search needs
+mul-v : tie.Need-mul-v
+mul-v c =
+    omega (arith, c .before .before .before .before .before .before .before .before .before .before .pre .0, c .before .before .before .before .before .before .before .before .before .before .pre .1)
 
-mul-v : tie.Need-mul-v Inv-loop μ-loop
-mul-v c = search needs
+element-write-v : tie.Need-element-write-v
+element-write-v c =
+    omega (arith, c .before .before .before .before .before .before .before .before .before .before .pre .0, c .before .before .before .before .before .before .before .before .before .before .pre .1)
 
-element-write-v : tie.Need-element-write-v Inv-loop μ-loop
-element-write-v c = search needs
+rest-requires : tie.Need-rest-requires
+rest-requires c κs = search needs
 
-add-j : tie.Need-add-j Inv-loop μ-loop
-add-j c = search needs
+returns : tie.Need-returns
+unfolding markOf pick
+returns c =
+    first-no-mark (c .before .before .before .before .before .args .s .now) (c .before .before .before .before .before .args .form) (c .before .before .before .before .before .args .place) (c .before .before .before .before .before .args .n) (c .before .before .before .before .before .args .at) (c .before .before .before .before .before .args .v .now) (c .before .before .before .before .before .pre .1) (sym (c .before .before .after .ensures) ∙ c .enum-told .given .1)
 
-loop-less : tie.Need-loop-less Inv-loop μ-loop
-loop-less c = search needs
+returns-2 : tie.Need-returns-2
+unfolding markOf pick
+returns-2 c =
+    first-no-number (c .before .before .before .before .before .before .before .before .before .args .s .now) (c .before .before .before .before .before .before .before .before .before .args .form) (c .before .before .before .before .before .before .before .before .before .args .place) (c .before .before .before .before .before .before .before .before .before .args .n) (c .before .before .before .before .before .before .before .before .before .args .at) (c .before .before .before .before .before .before .before .before .before .args .v .now) (c .before .before .before .before .q .given .0 .0) (c .before .before .before .before .before .before .before .before .before .pre .1) (sym (c .before .before .before .before .before .before .after .ensures) ∙ c .before .before .before .before .q .given .1) (sym (c .before .before .field .ensures) ∙ c .enum-told2 .given .1)
 
-loop-again : tie.Need-loop-again Inv-loop μ-loop
-loop-again c =
-    sym (fields-step (c .before .before .before .before .before .before .before .before .before .before .before .args .s .now) (c .before .before .before .before .before .before .before .before .before .before .before .args .form) (c .before .before .before .before .before .before .before .before .before .before .before .args .place) (c .before .before .before .before .before .before .before .before .before .before .before .args .n) (c .before .before .before .before .before .before .before .before .before .loop .j) (c .before .before .before .before .before .before .before .before .before .loop .p) (c .before .before .before .before .before .before .before .before .before .loop .v) (c .before .before .before .before .before .q .given .0 .0) (c .before .x .given .0 .0) (c .before .x .given .0 .1 .0) (c .before .before .before .before .before .before .before .before .loop-test .taken) (sym (c .before .before .before .before .before .before .before .mark .ensures) ∙ c .before .before .before .before .before .q .given .1) (sym (c .before .before .before .field .ensures) ∙ c .before .x .given .1)) ∙ c .before .before .before .before .before .before .before .before .before .loop .inv
-
-returns-3 : tie.Need-returns-3 Inv-loop μ-loop
+returns-3 : tie.Need-returns-3
+unfolding markOf pick
 returns-3 c =
-    sym (fields-end (c .before .before .before .args .s .now) (c .before .before .before .args .form) (c .before .before .before .args .place) (c .before .before .before .args .n) (c .before .loop .j) (c .before .loop .p) (c .before .loop .v) (c .loop-test .left)) ∙ c .before .loop .inv
+    c .rest .ensures ∙ first-step (c .before .before .before .before .before .before .before .before .before .before .before .before .args .s .now) (c .before .before .before .before .before .before .before .before .before .before .before .before .args .form) (c .before .before .before .before .before .before .before .before .before .before .before .before .args .place) (c .before .before .before .before .before .before .before .before .before .before .before .before .args .n) (c .before .before .before .before .before .before .before .before .before .before .before .before .args .at) (c .before .before .before .before .before .before .before .before .before .before .before .before .args .v .now) (c .before .before .before .before .before .before .before .q .given .0 .0) (c .before .before .before .x .given .0 .0) (c .before .before .before .x .given .0 .1 .0) (c .before .before .before .before .before .before .before .before .before .before .before .before .pre .1) (c .before .before .before .before .before .before .before .before .before .before .before .before .pre .2) (sym (c .before .before .before .before .before .before .before .before .before .after .ensures) ∙ c .before .before .before .before .before .before .before .q .given .1) (sym (c .before .before .before .before .before .field .ensures) ∙ c .before .before .before .x .given .1)
 
 pub fields-spec : {M : Type 1} → statement M
 fields-spec =
     tie.close
     (tie.spec
-    Inv-loop
-    μ-loop
-    loop-holds
-    mark-requires
+    slice-aggregate-after
+    after-requires
     enum-told
-    returns
     enum-known-q
     field-requires
     enum-told-2
-    returns-2
     enum-known-x
-    add-e
     mul-v
     element-write-v
-    add-j
-    loop-less
-    loop-again
+    rest-requires
+    returns
+    returns-2
     returns-3)

@@ -1,26 +1,65 @@
 -- `reader::judged` meets its contract: a bad line is malformed, a good one has its row's fault. Assumes nothing.
-use mathlib.Core.Path.{refl}
+use Prim.Native.Nat.{_<_}
+use mathlib.Core.Path.{_≡_, refl, _∙_, ap}
 use Rattle.units.proofs.Steps.{pick-yes, pick-not}
+use Rattle.rows.specs.declared.table.Key.{Key}
+use Rattle.rows.specs.Facts.{factsOf}
+use Rattle.rows.specs.Table.{plain}
+use Rattle.rows.proofs.Tables.{place-room}
+use Rattle.rows.proofs.Keys.{facts-key, facts-short, facts-form}
+use Rattle.figures.specs.Figures.{onPlace, afterAt}
+use Rattle.reader.specs.Line.{bad, fields, ended, lineAt}
 use Rattle.reader.specs.Read.{judgedAt, step}
+use Rattle.reader.proofs.Rows.{facts-long, width-some, wide-plain}
+use native.Mathlib.Omega.{arith}
 use borrow.Author.Needs.{needs}
 use Rattle.reader.proofs.judged.Statement.{statement}
 use Rattle.reader.proofs.judged.Tie as tie
 
-line-requires : tie.Need-line-requires
-line-requires c κs = search needs
+facts-requires : tie.Need-facts-requires
+facts-requires c κs = search needs
 
-row-fault-requires : tie.Need-row-fault-requires
-row-fault-requires c κs = search needs
+place-requires : tie.Need-place-requires
+place-requires c κs = search needs
+
+width-requires : tie.Need-width-requires
+width-requires c κs = search needs
+
+line-requires : tie.Need-line-requires
+line-requires c κs =
+    let row = c .before .before .before .before .before .args .row in
+    let form : 1 < c .before .width .result → c .before .before .before .facts .result .2 ≡ plain = λ w. facts-form row (c .before .before .before .facts .result) (c .before .before .before .facts .ensures) ∙ wide-plain row (c .before .before .before .before .before .pre .0) (omega (arith, w, c .before .width .ensures)) in
+    (c .before .before .before .before .before .pre .1, facts-long row (c .before .before .before .facts .result) (c .before .before .before .facts .ensures) (c .before .before .before .before .before .pre .0), facts-short row (c .before .before .before .facts .result) (c .before .before .before .facts .ensures), omega (arith, place-room row (c .before .before .before .before .before .pre .0), c .before .before .place .ensures, c .before .width .ensures), omega (arith, width-some row (c .before .before .before .before .before .pre .0), c .before .width .ensures), form)
+
+fault-requires : tie.Need-fault-requires
+unfolding factsOf
+fault-requires c κs =
+    (c .before .before .before .before .before .before .before .before .pre .0, c .before .before .before .before .before .place .ensures, c .before .before .before .before .width .ensures, ap (λ (k : Key). k .3) (c .before .before .before .before .before .before .facts .ensures), ap (λ (k : Key). k .4) (c .before .before .before .before .before .before .facts .ensures))
 
 returns : tie.Need-returns
-unfolding judgedAt
+unfolding judgedAt lineAt
 returns c =
-    rw (← (c .before .before .before .line .ensures)) (pick-yes _ _ _ _ (c .before .before .if1 .taken) (λ i. step (c .row-fault .ensures i) (c .before .before .before .line .result .next) (c .before .before .before .line .last .1 .1 .1 .0)))
+    let key = facts-key (c .before .before .before .before .before .before .before .before .before .args .row) (c .before .before .before .before .before .before .before .facts .result) (c .before .before .before .before .before .before .before .facts .ensures) in
+    let form = facts-form (c .before .before .before .before .before .before .before .before .before .args .row) (c .before .before .before .before .before .before .before .facts .result) (c .before .before .before .before .before .before .before .facts .ensures) in
+    let taken = c .before .before .before .line .ensures .0 ∙ (λ i. onPlace (afterAt (c .before .before .before .before .before .before .before .before .before .args .s .now) (c .before .before .before .before .before .before .before .before .before .args .at) (key i)) (λ p. ended (c .before .before .before .before .before .before .before .before .before .args .s .now) (fields (c .before .before .before .before .before .before .before .before .before .args .s .now) (form i) (c .before .before .before .before .before .before .place .ensures i) (c .before .before .before .before .before .width .ensures i) 0 p (c .before .before .before .before .before .before .before .before .before .args .v .now))) (bad (c .before .before .before .before .before .before .before .before .before .args .v .now))) in
+    (rw (← taken) (pick-yes _ _ _ _ (c .before .before .if1 .taken) (λ i. step (c .fault .ensures i) (c .before .before .before .line .result .next) (c .before .before .before .line .last .1 .1 .1 .1 .1 .0))), c .before .before .before .line .ensures .1 (c .before .before .if1 .taken))
 
 returns-2 : tie.Need-returns-2
-unfolding judgedAt
+unfolding judgedAt lineAt
 returns-2 c =
-    rw (← (c .before .line .ensures)) (pick-not _ _ _ _ (c .if1 .left) refl)
+    let key = facts-key (c .before .before .before .before .before .before .before .args .row) (c .before .before .before .before .before .facts .result) (c .before .before .before .before .before .facts .ensures) in
+    let form = facts-form (c .before .before .before .before .before .before .before .args .row) (c .before .before .before .before .before .facts .result) (c .before .before .before .before .before .facts .ensures) in
+    let taken = c .before .line .ensures .0 ∙ (λ i. onPlace (afterAt (c .before .before .before .before .before .before .before .args .s .now) (c .before .before .before .before .before .before .before .args .at) (key i)) (λ p. ended (c .before .before .before .before .before .before .before .args .s .now) (fields (c .before .before .before .before .before .before .before .args .s .now) (form i) (c .before .before .before .before .place .ensures i) (c .before .before .before .width .ensures i) 0 p (c .before .before .before .before .before .before .before .args .v .now))) (bad (c .before .before .before .before .before .before .before .args .v .now))) in
+    (rw (← taken) (pick-not _ _ _ _ (c .if1 .left) refl), omega arith)
 
 pub judged-spec : {M : Type 1} → statement M
-judged-spec = tie.close (tie.spec line-requires row-fault-requires returns returns-2)
+judged-spec =
+    tie.close
+    (tie.spec
+    facts-requires
+    place-requires
+    width-requires
+    line-requires
+    fault-requires
+    returns
+    returns-2)

@@ -1,61 +1,60 @@
--- `reader::read` meets its contract: the lines decide, then the whole. Assumes nothing.
+-- `reader::read` meets its contract: without the first key the first line is malformed. Assumes nothing.
 use mathlib.Core.Path.{sym, _∙_, ap}
-use Rattle.sheet.proofs.Answers.{fine-or, bad-or}
-use Rattle.sheet.specs.declared.Answer.{Answer}
-use Rattle.numbers.specs.Flat.{sheetOf}
-use Rattle.faults.specs.Whole.{wholeFault}
-use Rattle.reader.specs.Read.{reply, readOf}
-use Rattle.reader.proofs.Cases.{reply-bad}
+use mathlib.Core.List.{List}
+use Prim.Native.Nat.{ℕ}
+use Rattle.sheet.specs.declared.Sheet.{Sheet}
+use Rattle.sheet.specs.declared.Answer.the-variants.{Refused}
+use Rattle.sheet.specs.declared.Refusal.the-variants.{Malformed}
+use Rattle.rows.proofs.Keys.{facts-key, facts-short}
+use Rattle.figures.specs.Figures.{afterAt}
+use Rattle.reader.specs.Read.{reply}
+use Rattle.reader.proofs.Rows.{facts-long}
+use Rattle.reader.proofs.Cases.{not-begun}
+use native.Mathlib.Omega.{arith}
 use borrow.Author.Needs.{needs}
 use Rattle.reader.proofs.read.Statement.{statement}
 use Rattle.reader.proofs.read.Tie as tie
 
-lines-requires : tie.Need-lines-requires
-lines-requires c κs = search needs
+facts-requires : tie.Need-facts-requires
+facts-requires c κs = search needs
 
-is-fine-requires : tie.Need-is-fine-requires
-is-fine-requires c κs = search needs
+key-requires : tie.Need-key-requires
+key-requires c κs =
+    (omega arith, facts-long 0 (c .before .facts .result) (c .before .facts .ensures) (omega arith), facts-short 0 (c .before .facts .result) (c .before .facts .ensures))
 
-sheet-of-requires : tie.Need-sheet-of-requires
-sheet-of-requires c κs = search needs
+enum-told : tie.Need-enum-told
+enum-told c = search needs
 
-whole-fault-requires : tie.Need-whole-fault-requires
-whole-fault-requires c κs = search needs
+zero-sheet-requires : tie.Need-zero-sheet-requires
+zero-sheet-requires c κs = search needs
 
 reply-requires : tie.Need-reply-requires
 reply-requires c κs = search needs
 
 returns : tie.Need-returns
-unfolding readOf
 returns c =
-    let s = c .before .before .sheet-of .ensures in
-    let answer = c .before .whole-fault .ensures ∙ ap wholeFault s ∙ sym (fine-or (c .before .before .before .before .before .before .lines .result .answer) (wholeFault (sheetOf (c .before .before .before .before .before .before .lines .last .1 .0))) (sym (c .before .before .before .before .before .is-fine .ensures) ∙ c .before .before .before .before .if1 .taken)) in
-    rw (← (c .before .before .before .before .before .before .lines .ensures)) (c .reply .ensures ∙ λ i. reply (answer i) (s i))
+    let key = ap (λ (w : List ℕ). afterAt (c .before .before .before .before .before .before .before .before .args .text .now) 0 w) (facts-key 0 (c .before .before .before .before .before .before .facts .result) (c .before .before .before .before .before .before .facts .ensures)) in
+    c .reply .ensures ∙ ap (λ (s : Sheet). reply (Refused Malformed 1) s) (c .before .zero-sheet .ensures) ∙ not-begun (c .before .before .before .before .before .before .before .before .args .text .now) (sym key ∙ sym (c .before .before .before .before .key .ensures) ∙ c .before .before .enum-told .given .1)
 
-zero-sheet-requires : tie.Need-zero-sheet-requires
-zero-sheet-requires c κs = search needs
+enum-told-2 : tie.Need-enum-told-2
+enum-told-2 c = search needs
 
-reply-requires-2 : tie.Need-reply-requires-2
-reply-requires-2 c κs = search needs
+begun-requires : tie.Need-begun-requires
+begun-requires c κs = search needs
 
 returns-2 : tie.Need-returns-2
-unfolding readOf
-returns-2 c =
-    let bad = sym (c .before .before .before .is-fine .ensures) ∙ c .before .before .if1 .left in
-    let s = sheetOf (c .before .before .before .before .lines .last .1 .0) in
-    let answer = sym (bad-or (c .before .before .before .before .lines .result .answer) (wholeFault s) bad) in
-    rw (← (c .before .before .before .before .lines .ensures)) (c .reply2 .ensures ∙ reply-bad (c .before .before .before .before .lines .result .answer) (c .before .zero-sheet .result) s bad ∙ ap (λ (a : Answer). reply a s) answer)
+returns-2 c = search needs
 
 pub read-spec : {M : Type 1} → statement M
 read-spec =
     tie.close
     (tie.spec
-    lines-requires
-    is-fine-requires
-    sheet-of-requires
-    whole-fault-requires
+    facts-requires
+    key-requires
+    enum-told
+    zero-sheet-requires
     reply-requires
     returns
-    zero-sheet-requires
-    reply-requires-2
+    enum-told-2
+    begun-requires
     returns-2)
