@@ -1,7 +1,8 @@
 // The worksheet filled in: the answer to a sheet, and its 61 lines.
 ghost use mathlib.Core.Path.{_≡_};
-ghost use Rattle.lines.specs.Worksheet.{zeroLines, worksheetOf};
+ghost use Rattle.lines.specs.Worksheet.{zeroLines, worksheetOf, timedOf};
 use lines::Lines;
+use lines::Timed;
 use lines::Worked;
 use sheet::Answer;
 use sheet::Sheet;
@@ -99,6 +100,23 @@ pub fn worksheet(s: Sheet) -> Worked
         Worked {
             answer: answer,
             lines: lines,
+        }
+    }
+}
+
+// The answer and lines 3 and 51 alone: what is worked out for each tick of a unit that is handed over.
+pub fn timed(s: Sheet) -> Timed
+    ensures { λ r. ⌜ r ≡ timedOf s ⌝ }
+{
+    let told = accept::accept(s);
+    if answers::is_fine(told) {
+        sections::timed_of(s, told)
+    } else {
+        let none = Tenths(0);
+        Timed {
+            answer: told,
+            l03: none,
+            l51: none,
         }
     }
 }

@@ -2,7 +2,7 @@
 ghost use mathlib.Core.Path.{_≡_};
 ghost use Rattle.sheet.specs.declared.Answer.the-variants.{Fine};
 ghost use Rattle.faults.specs.Whole.{acceptOf};
-ghost use Rattle.lines.specs.Lines.{l03, l17, l20, l22, l23, l25, l44, linesOf};
+ghost use Rattle.lines.specs.Lines.{l03, l17, l20, l22, l23, l25, l44, l51, linesOf};
 ghost use Rattle.lines.specs.Sections.{transferLines, vehiclesLines, pedestriansLines, clearanceLines, warningLines, gatesLines, greenLines, streetLines, assemble};
 use super::sums;
 use lines::Clearance;
@@ -11,9 +11,11 @@ use lines::Green;
 use lines::Lines;
 use lines::Pedestrians;
 use lines::Street;
+use lines::Timed;
 use lines::Transfer;
 use lines::Vehicles;
 use lines::Warning;
+use sheet::Answer;
 use sheet::Sheet;
 use transfer::Users;
 use units::Feet;
@@ -192,6 +194,25 @@ pub(crate) fn street_lines(s: Sheet, m17: Tenths, m20: Feet, m22: Tenths) -> Str
         l59: l59,
         l60: l60,
         l61: l61,
+    }
+}
+
+// Lines 3 and 51 of an accepted sheet, with its answer.
+pub(crate) fn timed_of(s: Sheet, answer: Answer) -> Timed
+    requires { ⌜ acceptOf s ≡ Fine ⌝ }
+    ensures { λ r. ⌜ r ≡ record { answer = answer; l03 = l03 s; l51 = l51 s } ⌝ }
+{
+    let l01 = sums::time(s.l01);
+    let l02 = sums::time(s.l02);
+    let l03 = sums::plus(l01, l02);
+    let c = clearance_lines(s);
+    let g = gate_lines(s, l03);
+    let e = green_lines(s, c.l22, c.l23, c.l25, g.l44);
+    let green = e.l51;
+    Timed {
+        answer: answer,
+        l03: l03,
+        l51: green,
     }
 }
 

@@ -7,6 +7,7 @@ use Rattle.sheet.specs.Refusals.{isFine}
 use Rattle.faults.specs.Whole.{acceptOf}
 use Rattle.lines.specs.declared.Lines.{Lines}
 use Rattle.lines.specs.declared.Worked.{Worked}
+use Rattle.lines.specs.declared.Timed.{Timed}
 use Rattle.lines.specs.Lines.{linesOf}
 
 unfoldable pub zeroLines : Lines
@@ -78,6 +79,10 @@ zeroLines =
 -- "A refused .. worksheet .. gives only zeros beside its number"
 unfoldable pub worksheetOf : Sheet → Worked
 worksheetOf s = record { answer = acceptOf s; lines = pick (isFine (acceptOf s)) (linesOf s) zeroLines }
+
+-- of it, what the sequence goes by
+abbrev pub timedOf : Sheet → Timed
+timedOf s = record { answer = worksheetOf s .answer; l03 = worksheetOf s .lines .l03; l51 = worksheetOf s .lines .l51 }
 
 -- "then `L01=0` to `L61=297`, one line each"
 unfoldable pub inOrder : Lines → List ℕ

@@ -74,6 +74,13 @@ pub struct Worked {
     pub lines: Lines,
 }
 
+// What the worksheet says to the sequence: the answer, and lines 3 and 51, which it goes by.
+pub struct Timed {
+    pub answer: Answer,
+    pub l03: Tenths,
+    pub l51: Tenths,
+}
+
 // ---- by sections
 
 // Lines 1 to 3, 16 and 17.

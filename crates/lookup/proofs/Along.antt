@@ -1,18 +1,14 @@
 -- The search for a phase, along the definition: at a listed phase it ends or goes on, past the last it has found none. Assumes nothing.
-use mathlib.Core.Path.{_≡_, refl, sym, _∙_}
-use mathlib.Core.List.{List, map}
+use mathlib.Core.Path.{_≡_, refl}
+use mathlib.Core.List.{List}
 use Prim.Native.Nat.{ℕ, _+_, _<_, _≤_}
-use lib.ListN.{length, length-map, getD, take, drop}
+use lib.ListN.{length, getD, take, drop}
 use borrow.Author.Tests.{eq-eqb, ne-eqb}
 use Rattle.units.specs.Numbers.{pick}
 use Rattle.units.proofs.Walk.{left-at, none-left}
 use Rattle.sheet.specs.declared.Phase.{Phase}
 use Rattle.stage.specs.declared.Found.the-variants.{At, Missing}
 use Rattle.stage.specs.Listed.{findIn}
-
--- an array of structs stands in what is known as a list of their parts
-pub mapped : {X Y : Type 0} (f : X → Y) (l : List X) (n : ℕ) → length (map f l) ≡ n → length l ≡ n
-mapped f l n e = sym (length-map l f) ∙ e
 
 module _ (ps : List Phase) (n : ℕ) (fits : n ≤ length ps) (number i : ℕ) where
   pub ends-here : (d : Phase) → i < n → getD ps i d .number ≡ number → findIn (drop i (take n ps)) number ≡ At (getD ps i d)

@@ -1,18 +1,19 @@
 // The phases of a sheet by their numbers.
 ghost use mathlib.Core.Path.{_≡_};
-ghost use Rattle.stage.specs.Listed.{listing, findIn, isAt, orZero, listed, phaseOf};
+ghost use lib.ListN.{take};
+ghost use Rattle.stage.specs.Listed.{findIn, isAt, orZero, listed, phaseOf};
 use sheet::Phase;
 use sheet::Sheet;
 use stage::Found;
 
-// The listed phase of that number.
-fn find(sheet: Sheet, number: u32) -> Found
-    ensures { λ r. ⌜ r ≡ findIn (listing sheet) number ⌝ }
+// The listed phase of that number. The phases alone are handed over, not the whole sheet.
+fn find(phases: [Phase; 8], count: u32, number: u32) -> Found
+    ensures { λ r. ⌜ r ≡ findIn (take count phases) number ⌝ }
 {
-    let n = units::smaller(sheet.phase_count as u64, 8) as usize;
+    let n = units::smaller(count as u64, 8) as usize;
     let mut i: usize = 0;
     while i < n {
-        let p = sheet.phases[i];
+        let p = phases[i];
         if p.number == number {
             return Found::At(p);
         }
@@ -43,12 +44,14 @@ fn or_zero(found: Found) -> Phase
 pub fn listed(sheet: Sheet, number: u32) -> bool
     ensures { λ r. ⌜ r ≡ listed sheet number ⌝ }
 {
-    is_at(find(sheet, number))
+    let phases = sheet.phases;
+    is_at(find(phases, sheet.phase_count, number))
 }
 
 // The listed phase of that number; a stage that fits has no other.
 pub fn phase_of(sheet: Sheet, number: u32) -> Phase
     ensures { λ r. ⌜ r ≡ phaseOf sheet number ⌝ }
 {
-    or_zero(find(sheet, number))
+    let phases = sheet.phases;
+    or_zero(find(phases, sheet.phase_count, number))
 }

@@ -16,11 +16,11 @@ pub fn measure(sheet: Sheet) -> Measured
 {
     let yellow = sheet.track_yellow as u64;
     let red = sheet.track_red as u64;
-    let worked = form::worksheet(sheet);
-    let answer = worked.answer;
+    let timed = form::timed(sheet);
+    let answer = timed.answer;
     let t = Lengths {
-        l03: ruled::ticks(worked.lines.l03),
-        l51: ruled::ticks(worked.lines.l51),
+        l03: ruled::ticks(timed.l03),
+        l51: ruled::ticks(timed.l51),
         track_yellow: yellow,
         track_red: red,
     };

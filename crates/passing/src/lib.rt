@@ -12,7 +12,7 @@ pub fn pass(t: Lengths, sheet: Sheet, call: bool, count: u32, start: Now) -> Now
     let mut now = start;
     let mut i: u32 = 0;
     while i < count {
-        let next = tick::tick(t, sheet, now, Command::None, call);
+        let next = steady::tick(t, sheet, now, Command::None, call);
         let later = next.now;
         now = later;
         i += 1;

@@ -1,25 +1,27 @@
 // The bench: a site sheet on standard input, a line `run`, then one event a line; on standard output what the unit shows.
 use libc::STDIN_FILENO;
 use reader::Reading;
+use running::Running;
 use sheet::Answer;
 use stage::Command;
-use unit::Unit;
 
 mod marks;
 mod prints;
 
-// A unit, the ticks it has run, and the place of the next event and how many lines stand before it.
+// A running unit, the ticks it has run, and the place of the next event and how many lines stand before it.
 struct Run {
-    unit: Unit,
+    unit: Running,
     tick: u64,
     at: usize,
     line: usize,
 }
 
 // A tick is printed where what is shown changed or the command was refused.
-fn print_tick(tick: u64, before: Unit, after: Unit, answer: Answer) {
-    let left = before.stage;
-    let entered = after.stage;
+fn print_tick(tick: u64, before: Running, after: Running, answer: Answer) {
+    let was = before.now;
+    let is = after.now;
+    let left = was.stage;
+    let entered = is.stage;
     if shown::same(
         shown::of(before.sheet, left),
         shown::of(after.sheet, entered),
@@ -32,13 +34,13 @@ fn print_tick(tick: u64, before: Unit, after: Unit, answer: Answer) {
 }
 
 // As many ticks as the order has, each with its command and its call.
-fn ticks(first: Unit, from: u64, command: Command, call: bool, count: u32) -> Unit {
+fn ticks(first: Running, from: u64, command: Command, call: bool, count: u32) -> Running {
     let mut unit = first;
     let mut tick = from;
     let mut i: u32 = 0;
     while i < count {
         let reply = unit.tick(command, call);
-        let next = reply.unit;
+        let next = reply.running;
         let answer = reply.answer;
         tick = std::num::wrapping_add_u64(tick, 1);
         print_tick(tick, unit, next, answer);
@@ -59,9 +61,9 @@ fn read(s: &[u8], start: usize, end: usize) -> Reading {
 }
 
 // A text offered to the loader: a refusal of the reading is the reply. Its sheet is then all zeros, which the loader refuses too.
-fn load(unit: Unit, tick: u64, reading: Reading) -> Unit {
+fn load(unit: Running, tick: u64, reading: Reading) -> Running {
     let reply = unit.load(reading.sheet);
-    let after = reply.unit;
+    let after = reply.running;
     let read = reading.answer;
     let loaded = reply.answer;
     prints::state(tick, after, answers::or_else(read, loaded));
@@ -119,8 +121,8 @@ fn bench(s: &[u8]) {
     let reading = read(s, 0, run.start);
     let answer = reading.answer;
     if answers::is_fine(answer) {
-        let started = unit::start(reading.sheet);
-        let unit = started.unit;
+        let started = running::start(reading.sheet);
+        let unit = started.running;
         let fine = started.answer;
         prints::state(0, unit, fine);
         events(

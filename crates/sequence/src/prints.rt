@@ -1,7 +1,7 @@
 // What the bench prints: refusals, and what the unit shows.
 use libc::STDOUT_FILENO;
+use running::Running;
 use sheet::Answer;
-use unit::Unit;
 
 fn pair(number: u64, line: u64) {
     io::print_decimal(STDOUT_FILENO, number);
@@ -27,8 +27,9 @@ fn name(names: &[u8], n: u32) {
 }
 
 // TICK,STAGE,PHASE,WALKER,NUMBER,LINE
-pub(crate) fn state(tick: u64, unit: Unit, answer: Answer) {
-    let stage = unit.stage;
+pub(crate) fn state(tick: u64, unit: Running, answer: Answer) {
+    let now = unit.now;
+    let stage = now.stage;
     let shown = shown::of(unit.sheet, stage);
     io::print_decimal(STDOUT_FILENO, tick);
     name(

@@ -1,7 +1,7 @@
 // One tick of the stage and of the call's count: the changes due, what the call does, and the three steps of a tick.
 ghost use mathlib.Core.Path.{_≡_};
 ghost use Rattle.flow.specs.Settling.{enter, settleRed, settleYellow, settleGreen, settledAs, settleEnding, settle};
-ghost use Rattle.flow.specs.Calls.{counting, countTo, countAfter, answered, dropped, becomes, begins, called, overdue};
+ghost use Rattle.flow.specs.Calls.{counting, countAfter, answered, dropped, becomes, begins, called, overdue};
 ghost use Rattle.flow.specs.Tick.{afterTimes, heard, afterCommand, afterCall, ticked};
 use flow::Now;
 use flow::Ticked;
@@ -139,21 +139,11 @@ fn counting(t: Lengths, now: Now) -> bool
     normal::in_normal(stage)
 }
 
-fn count_to(t: Lengths, call: bool, count: u64) -> u64
-    ensures { λ r. ⌜ r ≡ countTo t call count ⌝ }
-{
-    if call {
-        intervals::one_more(count, t.l03)
-    } else {
-        0 // off sets it back
-    }
-}
-
 fn count_after(t: Lengths, call: bool, counted: bool, end: Stage, count: u64) -> u64
     ensures { λ r. ⌜ r ≡ countAfter t call counted end count ⌝ }
 {
     if counted {
-        return count_to(t, call, count);
+        return intervals::count_on(call, count, t.l03);
     }
     if normal::in_normal(end) {
         return 0;

@@ -1,6 +1,6 @@
 -- What the test of refusal 20 says, and a tick of a unit that fits: by the lengths of its sheet, which it keeps. Assumes nothing.
 use mathlib.Core.Bool.{Bool, true}
-use mathlib.Core.Path.{_≡_, refl, ap, sym, _∙_}
+use mathlib.Core.Path.{_≡_, refl, sym, _∙_}
 use lib.Dec.{leb}
 use Rattle.units.specs.Numbers.{pick}
 use Rattle.units.proofs.Steps.{both-left, both-right}
@@ -16,25 +16,26 @@ use Rattle.flow.proofs.Fit as flow
 use Rattle.measured.specs.declared.Measured.{Measured}
 use Rattle.unit.specs.declared.Unit.{Unit}
 use Rattle.measured.specs.Measured.{lengthsOf, accepted, measureOf}
-use Rattle.unit.specs.Unit.{nowOf, holding, fitsWith, fits, tickOf, fresh}
+use Rattle.fitting.specs.Fitting.{fitsBy}
+use Rattle.unit.specs.Unit.{nowOf, holding, fits, tickOf, fresh}
 
 -- ---- what the test says
 -- whatever a worksheet worked out once gave the test
-pub tested : (m : Measured) (u : Unit) (r b : Bool) → m ≡ measureOf (u .sheet) → r ≡ fitsWith m u → r ≡ b → fits u ≡ b
-tested m u r b e f h = sym (ap (λ (x : Measured). fitsWith x u) e) ∙ sym f ∙ h
+pub tested : (m : Measured) (x : Now) (u : Unit) (r b : Bool) → m ≡ measureOf (u .sheet) → x ≡ nowOf u → r ≡ fitsBy m (u .sheet) x → r ≡ b → fits u ≡ b
+tested m x u r b e n f h = sym (λ i. fitsBy (e i) (u .sheet) (n i)) ∙ sym f ∙ h
 
 pub fits-sheet : (u : Unit) → fits u ≡ true → accepted (u .sheet) ≡ true
-unfolding fitsWith
+unfolding fitsBy
 fits-sheet u e = both-left (accepted (u .sheet)) _ e
 
 pub fits-told : (u : Unit) → fits u ≡ true → Fits (lengthsOf (u .sheet)) (u .sheet) (nowOf u)
-unfolding fitsWith
+unfolding fitsBy
 fits-told u e =
     let b = both-right (accepted (u .sheet)) _ e in
     record { count = both-left (leb (u .count) (lengthsOf (u .sheet) .l03)) _ b; stage = both-right (leb (u .count) (lengthsOf (u .sheet) .l03)) _ b }
 
 pub told-fits : (s : Sheet) (x : Now) → accepted s ≡ true → Fits (lengthsOf s) s x → fits (holding s x) ≡ true
-unfolding fitsWith
+unfolding fitsBy
 told-fits s x a f = both-true _ _ a (both-true _ _ (f .count) (f .stage))
 
 pub fresh-fits : (s : Sheet) → accepted s ≡ true → fits (fresh s) ≡ true

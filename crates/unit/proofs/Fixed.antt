@@ -5,8 +5,6 @@ use Rattle.unit.proofs.start.Kinds as start-kinds
 use Rattle.unit.proofs.start.Reads as start-reads
 use Rattle.unit.proofs.Unit.tick.Kinds as tick-kinds
 use Rattle.unit.proofs.Unit.tick.Reads as tick-reads
-use Rattle.unit.proofs.Unit.pass.Kinds as pass-kinds
-use Rattle.unit.proofs.Unit.pass.Reads as pass-reads
 use Rattle.unit.proofs.Unit.load.Kinds as load-kinds
 use Rattle.unit.proofs.Unit.load.Reads as load-reads
 
@@ -21,12 +19,6 @@ tick-fixed κs a z z′ w w′ p q = (p ∙ sym q, refl)
 
 pub tick-open : AsksNothing 0 tick-kinds.ps tick-reads.Asked
 tick-open κs a = tt
-
-pub pass-fixed : Fixes 0 pass-kinds.ps pass-kinds.r pass-reads.Learnt
-pass-fixed κs a z z′ w w′ p q = (p ∙ sym q, refl)
-
-pub pass-open : AsksNothing 0 pass-kinds.ps pass-reads.Asked
-pass-open κs a = tt
 
 pub load-fixed : Fixes 0 load-kinds.ps load-kinds.r load-reads.Learnt
 load-fixed κs a z z′ w w′ p q = (p ∙ sym q, refl)

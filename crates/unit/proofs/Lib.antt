@@ -2,5 +2,4 @@ pub mod Fit
 pub mod Fixed
 pub mod Kept
 pub mod Loads
-pub mod Passing
 pub mod Refused

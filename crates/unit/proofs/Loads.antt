@@ -1,11 +1,10 @@
 -- What a load that is taken says, that this is enough, and the refusal where it is not: the first of four. Assumes nothing.
 use Prim.Native.Nat.{ℕ, _≤_}
-use mathlib.Core.Bool.{Bool, true, false}
+use mathlib.Core.Bool.{true, false}
 use mathlib.Core.Path.{_≡_, refl, sym, ap, _∙_}
-use lib.Dec.{eqb}
 use borrow.Author.Tests.{ltb-true, lt-ltb, le-ltb, eqb-true, eq-eqb}
 use Rattle.units.specs.Numbers.{pick}
-use Rattle.units.proofs.Steps.{cases, split, never, both-left, both-right}
+use Rattle.units.proofs.Steps.{split, never}
 use Rattle.sheet.specs.declared.Answer.{Answer}
 use Rattle.sheet.specs.declared.Answer.the-variants.{Fine, Refused}
 use Rattle.sheet.specs.declared.Refusal.the-variants.{UnitUnfit, LoadNotNow, IssueNotNewer}
@@ -16,7 +15,6 @@ use Rattle.lines.specs.Worksheet.{worksheetOf}
 use Rattle.stage.specs.declared.Stage.{Stage}
 use Rattle.stage.specs.declared.Stage.the-variants.{TrackGreen, TrackYellow, TrackRed, Open, Ending, ClearanceGreen, Dwell}
 use Rattle.stage.specs.Shown.{resting}
-use Rattle.unit.specs.declared.Reply.{Reply}
 use Rattle.unit.specs.declared.Unit.{Unit}
 use Rattle.measured.specs.Measured.{accepted}
 use Rattle.loading.specs.Loading.{newer}

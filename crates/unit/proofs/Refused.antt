@@ -12,7 +12,6 @@ use Rattle.sheet.specs.Refusals.{isFine, answerNumber, answerLine, unless}
 use Rattle.sheet.specs.Zero.{zeroSheet}
 use Rattle.stage.specs.declared.Command.{Command}
 use Rattle.stage.specs.declared.Command.the-variants.{None}
-use Rattle.flow.specs.declared.Now.{Now}
 use Rattle.flow.specs.declared.Ticked.{Ticked}
 use Rattle.flow.specs.Tick.{ticked}
 use Rattle.flow.proofs.Dwell as flow

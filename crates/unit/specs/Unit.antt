@@ -1,7 +1,6 @@
 -- A tick, the loader and a start.
 use mathlib.Core.Bool.{Bool}
-use lib.Dec.{leb}
-use Rattle.units.specs.Numbers.{pick, both}
+use Rattle.units.specs.Numbers.{pick}
 use Rattle.sheet.specs.declared.Answer.{Answer}
 use Rattle.sheet.specs.declared.Answer.the-variants.{Refused}
 use Rattle.sheet.specs.declared.Refusal.the-variants.{UnitUnfit, CommandNotAllowed}
@@ -12,12 +11,11 @@ use Rattle.lines.specs.Worksheet.{worksheetOf}
 use Rattle.stage.specs.declared.Command.{Command}
 use Rattle.stage.specs.declared.Stage.the-variants.{TrackGreen}
 use Rattle.stage.specs.Shown.{resting}
-use Rattle.stage.specs.Fitness.{stageFits}
 use Rattle.flow.specs.declared.Now.{Now}
 use Rattle.flow.specs.declared.Ticked.{Ticked}
 use Rattle.flow.specs.Tick.{ticked}
-use Rattle.measured.specs.declared.Measured.{Measured}
 use Rattle.measured.specs.Measured.{lengthsOf, measureOf}
+use Rattle.fitting.specs.Fitting.{fitsBy}
 use Rattle.loading.specs.Loading.{placeBy, answerBy}
 use Rattle.unit.specs.declared.Reply.{Reply}
 use Rattle.unit.specs.declared.Unit.{Unit}
@@ -29,12 +27,9 @@ nowOf u = record { stage = u .stage; count = u .count }
 abbrev pub holding : Sheet → Now → Unit
 holding s now = record { sheet = s; stage = now .stage; count = now .count }
 
--- ---- refusal 20: "a refused sheet", then "a count above line 3" and what the stage shows
-unfoldable pub fitsWith : Measured → Unit → Bool
-fitsWith m u = both (isFine (m .answer)) (both (leb (u .count) (m .lengths .l03)) (stageFits (m .lengths) (u .sheet) (u .stage)))
-
+-- ---- refusal 20, by what the worksheet of the sheet says
 abbrev pub fits : Unit → Bool
-fits u = fitsWith (measureOf (u .sheet)) u
+fits u = fitsBy (measureOf (u .sheet)) (u .sheet) (nowOf u)
 
 -- ---- a tick
 -- 23: "command not allowed now"

@@ -8,32 +8,29 @@ use Rattle.units.proofs.Walk.{counted}
 use Rattle.sheet.specs.declared.Phase.{Phase}
 use Rattle.sheet.specs.Zero.{zeroPhase}
 use Rattle.stage.specs.Listed.{findIn}
-use Rattle.lookup.proofs.Along.{mapped, ends-here, goes-on, none-found}
+use Rattle.lookup.proofs.Along.{ends-here, goes-on, none-found}
 use borrow.Author.Needs.{needs}
 use Rattle.lookup.proofs.find.Statement.{statement}
 use Rattle.lookup.proofs.find.Tie as tie
 
 abbrev Inv-loop : tie.InvT-loop
-Inv-loop number sheet n i₀ i = findIn (take n (sheet .phases)) number ≡ findIn (drop i (take n (sheet .phases))) number
+Inv-loop count number phases n i₀ i = findIn (take n phases) number ≡ findIn (drop i (take n phases)) number
 
 abbrev μ-loop : tie.MeasureT-loop
-μ-loop number sheet n i₀ i = n - i
+μ-loop count number phases n i₀ i = n - i
 
 module _ (c : tie.After-smaller Inv-loop μ-loop) where
   abbrev ps : List Phase
-  ps = c .before .args .t1 .phases
+  ps = c .before .args .t1
 
   long : length ps ≡ 8
-  long = search (mapped, needs)
+  long = search needs
 
   fits : c .smaller .result ≤ length ps
   fits = omega (arith, long)
 
-  same : take (c .smaller .result) ps ≡ take (c .before .args .t1 .«phase_count») ps
-  same = ap (λ (m : ℕ). take m ps) (c .smaller .ensures) ∙ counted ps (c .before .args .t1 .«phase_count») 8 long
-
-cast-smaller : tie.Need-cast-smaller Inv-loop μ-loop
-cast-smaller c = search needs
+  same : take (c .smaller .result) ps ≡ take (c .before .args .count) ps
+  same = ap (λ (m : ℕ). take m ps) (c .smaller .ensures) ∙ counted ps (c .before .args .count) _ (search needs)
 
 smaller-requires : tie.Need-smaller-requires Inv-loop μ-loop
 smaller-requires c κs = search needs
@@ -45,8 +42,8 @@ loop-holds c =
 mul-p : tie.Need-mul-p Inv-loop μ-loop
 mul-p c = search needs
 
-element-copy-out-p : tie.Need-element-copy-out-p Inv-loop μ-loop
-element-copy-out-p c = search needs
+array-copy-out-p : tie.Need-array-copy-out-p Inv-loop μ-loop
+array-copy-out-p c = search needs
 
 returns : tie.Need-returns Inv-loop μ-loop
 returns c =
@@ -80,11 +77,10 @@ find-spec =
     (tie.spec
     Inv-loop
     μ-loop
-    cast-smaller
     smaller-requires
     loop-holds
     mul-p
-    element-copy-out-p
+    array-copy-out-p
     returns
     add-i
     loop-less

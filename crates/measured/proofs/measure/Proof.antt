@@ -10,8 +10,8 @@ cast-yellow c = search needs
 cast-red : tie.Need-cast-red
 cast-red c = search needs
 
-worksheet-requires : tie.Need-worksheet-requires
-worksheet-requires c κs = search needs
+timed-requires : tie.Need-timed-requires
+timed-requires c κs = search needs
 
 ticks-requires : tie.Need-ticks-requires
 ticks-requires c κs = search needs
@@ -20,7 +20,7 @@ ticks-requires-2 : tie.Need-ticks-requires-2
 ticks-requires-2 c κs = search needs
 
 returns : tie.Need-returns
-returns c = rw (c .ticks2 .ensures, c .before .ticks .ensures, c .before .before .worksheet .ensures) refl
+returns c = rw (c .ticks2 .ensures, c .before .ticks .ensures, c .before .before .timed .ensures) refl
 
 pub measure-spec : {M : Type 1} → statement M
 measure-spec =
@@ -28,7 +28,7 @@ measure-spec =
     (tie.spec
     cast-yellow
     cast-red
-    worksheet-requires
+    timed-requires
     ticks-requires
     ticks-requires-2
     returns)

@@ -1,15 +1,15 @@
 -- `tick::count_after` meets its contract: test by test. Assumes nothing.
 use Rattle.units.proofs.Steps.{steps}
-use Rattle.flow.specs.Calls.{countAfter}
+use Rattle.flow.specs.Calls.{countTo, countAfter}
 use borrow.Author.Needs.{needs}
 use Rattle.tick.proofs.count_after.Statement.{statement}
 use Rattle.tick.proofs.count_after.Tie as tie
 
-count-to-requires : tie.Need-count-to-requires
-count-to-requires c κs = search needs
+count-on-requires : tie.Need-count-on-requires
+count-on-requires c κs = search needs
 
 returns : tie.Need-returns
-unfolding countAfter
+unfolding countAfter countTo
 returns c = search steps
 
 in-normal-requires : tie.Need-in-normal-requires
@@ -25,4 +25,4 @@ returns-3 c = search steps
 
 pub count-after-spec : {M : Type 1} → statement M
 count-after-spec =
-    tie.close (tie.spec count-to-requires returns in-normal-requires returns-2 returns-3)
+    tie.close (tie.spec count-on-requires returns in-normal-requires returns-2 returns-3)

@@ -8,8 +8,11 @@ use Rattle.unit.proofs.Unit.load_answer.Tie as tie
 measure-requires : tie.Need-measure-requires
 measure-requires c κs = search needs
 
-fits-with-requires : tie.Need-fits-with-requires
-fits-with-requires c κs = search needs
+now-requires : tie.Need-now-requires
+now-requires c κs = search needs
+
+fits-requires : tie.Need-fits-requires
+fits-requires c κs = search needs
 
 measure-requires-2 : tie.Need-measure-requires-2
 measure-requires-2 c κs = search needs
@@ -26,9 +29,17 @@ load-answer-requires c κs = search needs
 returns : tie.Need-returns
 unfolding loadAnswer placeAnswer
 returns c =
-    rw (c .load-answer .ensures, c .before .place-answer .ensures, c .before .before .resting .ensures, c .before .before .before .measure2 .ensures, c .before .before .before .before .fits-with .ensures, c .before .before .before .before .before .measure .ensures) refl
+    rw (c .load-answer .ensures, c .before .place-answer .ensures, c .before .before .resting .ensures, c .before .before .before .measure2 .ensures, c .before .before .before .before .fits2 .ensures, c .before .before .before .before .before .now .ensures, c .before .before .before .before .before .before .measure .ensures) refl
 
 pub load-answer-spec : {M : Type 1} → statement M
 load-answer-spec =
     tie.close
-    (tie.spec measure-requires fits-with-requires measure-requires-2 resting-requires place-answer-requires load-answer-requires returns)
+    (tie.spec
+    measure-requires
+    now-requires
+    fits-requires
+    measure-requires-2
+    resting-requires
+    place-answer-requires
+    load-answer-requires
+    returns)

@@ -12,11 +12,11 @@ use Rattle.unit.proofs.Unit.tick.Tie as tie
 measure-requires : tie.Need-measure-requires
 measure-requires c κs = search needs
 
-fits-with-requires : tie.Need-fits-with-requires
-fits-with-requires c κs = search needs
-
 now-requires : tie.Need-now-requires
 now-requires c κs = search needs
+
+fits-requires : tie.Need-fits-requires
+fits-requires c κs = search needs
 
 tick-requires : tie.Need-tick-requires
 tick-requires c κs = search needs
@@ -28,22 +28,22 @@ returns : tie.Need-returns
 unfolding tickOf
 returns c =
     let m = c .before .before .before .before .before .before .measure .ensures in
-    let n = c .before .before .now .ensures in
-    pick-yes _ _ _ _ (tested _ (c .before .before .before .before .before .before .before .before .args .self) _ _ m (c .before .before .before .before .fits-with .ensures) (c .before .before .before .if1 .taken))
+    let n = c .before .before .before .before .now .ensures in
+    pick-yes _ _ _ _ (tested _ _ (c .before .before .before .before .before .before .before .before .args .self) _ _ m n (c .before .before .before .fits2 .ensures) (c .before .before .if1 .taken))
     (c .replied .ensures ∙ ap (replied (c .before .before .before .before .before .before .before .before .args .self .sheet)) (c .before .tick .ensures ∙ (λ i. ticked (m i .lengths) (c .before .before .before .before .before .before .before .before .args .self .sheet) (n i) (c .before .before .before .before .before .before .before .before .args .command) (c .before .before .before .before .before .before .before .before .args .call))))
 
 returns-2 : tie.Need-returns-2
 unfolding tickOf pick
 returns-2 c =
-    rw (tested _ (c .before .before .before .before .before .args .self) _ _ (c .before .before .before .measure .ensures) (c .before .fits-with .ensures) (c .if1 .left)) refl
+    rw (tested _ _ (c .before .before .before .before .before .before .args .self) _ _ (c .before .before .before .before .measure .ensures) (c .before .before .now .ensures) (c .before .fits2 .ensures) (c .if1 .left)) refl
 
 pub tick-spec : {M : Type 1} → statement M
 tick-spec =
     tie.close
     (tie.spec
     measure-requires
-    fits-with-requires
     now-requires
+    fits-requires
     tick-requires
     replied-requires
     returns
