@@ -7,6 +7,8 @@ use Rattle.numbering.proofs.answer_number.Kinds as answer-number-kinds
 use Rattle.numbering.proofs.answer_number.Reads as answer-number-reads
 use Rattle.numbering.proofs.answer_line.Kinds as answer-line-kinds
 use Rattle.numbering.proofs.answer_line.Reads as answer-line-reads
+use Rattle.numbering.proofs.code.Kinds as code-kinds
+use Rattle.numbering.proofs.code.Reads as code-reads
 
 pub number-fixed : Fixes 0 number-kinds.ps number-kinds.r number-reads.Learnt
 number-fixed κs a z z′ w w′ p q = (p ∙ sym q, refl)
@@ -25,3 +27,9 @@ answer-line-fixed κs a z z′ w w′ p q = (p ∙ sym q, refl)
 
 pub answer-line-open : AsksNothing 0 answer-line-kinds.ps answer-line-reads.Asked
 answer-line-open κs a = tt
+
+pub code-fixed : Fixes 0 code-kinds.ps code-kinds.r code-reads.Learnt
+code-fixed κs a z z′ w w′ p q = (p ∙ sym q, refl)
+
+pub code-open : AsksNothing 0 code-kinds.ps code-reads.Asked
+code-open κs a = tt

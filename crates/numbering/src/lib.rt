@@ -1,6 +1,6 @@
 // The paper's number of a refusal, and the number and the line of an answer.
 ghost use mathlib.Core.Path.{_≡_};
-ghost use Rattle.sheet.specs.Refusals.{numberOf, answerNumber, answerLine};
+ghost use Rattle.sheet.specs.Refusals.{numberOf, answerNumber, answerLine, codeOf};
 use sheet::Answer;
 use sheet::Refusal;
 
@@ -44,4 +44,13 @@ pub fn answer_line(answer: Answer) -> u32
         Answer::Fine => 0,
         Answer::Refused(_, line) => line,
     }
+}
+
+// Both as one number, for other languages: 0 where the answer is fine.
+pub fn code(answer: Answer) -> u64
+    ensures { λ r. ⌜ r ≡ codeOf answer ⌝ }
+{
+    let number = answer_number(answer) as u64;
+    let line = answer_line(answer) as u64;
+    4294967296 * number + line
 }
