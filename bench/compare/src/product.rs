@@ -16,27 +16,15 @@ mod linked {
     extern "C" {
         pub fn lettofrisk_worksheet(text: *const u8, length: usize, lines: *mut [u64; LINES]) -> u64;
         pub fn lettofrisk_write(text: *const u8, length: usize, out: *mut u8, room: usize) -> u64;
-        pub fn lettofrisk_load(
+        pub fn lettofrisk_unit(
             sheet: *const Numbers,
             stage: *mut [u32; 7],
             times: *mut [u64; 3],
             offered: *const Numbers,
-        ) -> u64;
-        pub fn lettofrisk_ticks(
-            sheet: *const Numbers,
-            stage: *mut [u32; 7],
-            times: *mut [u64; 3],
-            command: u32,
+            event: u32,
             call: bool,
             more: u32,
-        ) -> u64;
-        pub fn lettofrisk_running(
-            sheet: *const Numbers,
-            stage: *mut [u32; 7],
-            times: *mut [u64; 3],
-            command: u32,
-            call: bool,
-            more: u32,
+            kept: bool,
         ) -> u64;
     }
 }
@@ -75,25 +63,29 @@ impl Unit {
         Unit { sheet, stage: [0; 7], times: [0; 3] }
     }
 
-    pub fn load(&mut self, offered: &Numbers) -> Answer {
-        let code = unsafe { linked::lettofrisk_load(&self.sheet, &mut self.stage, &mut self.times, offered) };
-        if code == 0 {
+    /// An event, by its number, and `more` ticks without a command; `kept`: by the unit that runs on, whose lengths are worked out once.
+    fn event(&mut self, offered: Option<&Numbers>, event: u32, call: bool, more: u32, kept: bool) -> Answer {
+        let Unit { sheet, stage, times } = self;
+        let held: &Numbers = sheet;
+        let offered = offered.unwrap_or(held);
+        answer(unsafe { linked::lettofrisk_unit(held, stage, times, offered, event, call, more, kept) })
+    }
+
+    pub fn load(&mut self, offered: &Numbers, kept: bool) -> Answer {
+        let told = self.event(Some(offered), 0, false, 0, kept);
+        if told.is_ok() {
             self.sheet = *offered;
         }
-        answer(code)
+        told
     }
 
     /// A tick with the command, and `more` without one; the unit and its sheet are checked whole at each.
     pub fn ticks(&mut self, end: Option<u32>, call: bool, more: u32) -> Answer {
-        let command = end.map_or(0, |next| next + 1);
-        answer(unsafe { linked::lettofrisk_ticks(&self.sheet, &mut self.stage, &mut self.times, command, call, more) })
+        self.event(None, end.map_or(1, |next| next + 2), call, more, false)
     }
 
-    /// The same ticks by the unit that runs on, whose lengths are worked out once.
+    /// The same ticks by the unit that runs on.
     pub fn running(&mut self, end: Option<u32>, call: bool, more: u32) -> Answer {
-        let command = end.map_or(0, |next| next + 1);
-        answer(unsafe {
-            linked::lettofrisk_running(&self.sheet, &mut self.stage, &mut self.times, command, call, more)
-        })
+        self.event(None, end.map_or(1, |next| next + 2), call, more, true)
     }
 }

@@ -72,7 +72,11 @@ impl Run {
 
     fn load(&mut self, sheet: &Numbers) -> Result<Answer, String> {
         let offered = sheets::sheet(sheet);
-        let answer = self.product.load(sheet);
+        let mut kept = self.product;
+        let answer = self.product.load(sheet, false);
+        if kept.load(sheet, true) != answer || kept != self.product {
+            return Err("a load by the unit that runs on".into());
+        }
         let expected = load(&mut self.plain, offered);
         if let Some(running) = &mut self.running {
             if running.load(offered) != expected {
@@ -109,7 +113,7 @@ fn command(random: &mut Random, unit: &Unit) -> Option<u32> {
     let listed: Vec<u32> = unit.sheet.listed().iter().map(|p| p.number.into()).collect();
     Some(match random.below(8) {
         0 => random.below(10) as u32,
-        1 => random.of_these(&[9, 255, 65536, 65538, u32::MAX - 1]),
+        1 => random.of_these(&[9, 255, 65536, 65538, u32::MAX - 2]),
         2 => 0,
         _ if listed.is_empty() => 1,
         _ => random.of_these(&listed),

@@ -1,5 +1,6 @@
 // Table 628-B in hundredths: a row for each vehicle and grade column (SU at 2 4 6 8 percent, bus at 1 2 4 6 8, WB-50 at 0 2 4 6 8), every 25 ft from 25 to 400.
 ghost use mathlib.Core.Path.{_≡_};
+ghost use Prim.Native.Nat.{_<_, _≤_};
 ghost use Rattle.units.specs.Numbers.{hundredths};
 ghost use Rattle.table.specs.Table.{columnIn, entryOf, table};
 use units::Hundredths;
@@ -219,27 +220,59 @@ const WB50_8: [Hundredths; 16] = [
     Hundredths(185),
 ];
 
-// A column of the table; past the last, only zeros.
-fn column(col: usize) -> [Hundredths; 16]
+// The columns of SU, those of the bus, and those of WB-50.
+fn su(col: usize) -> [Hundredths; 16]
+    requires { ⌜ col < 4 ⌝ }
     ensures { λ r. ⌜ r ≡ columnIn table col ⌝ }
 {
     match col {
         0 => SU_2,
         1 => SU_4,
         2 => SU_6,
-        3 => SU_8,
+        _ => SU_8,
+    }
+}
+
+fn bus(col: usize) -> [Hundredths; 16]
+    requires { ⌜ (4 ≤ col) × (col < 9) ⌝ }
+    ensures { λ r. ⌜ r ≡ columnIn table col ⌝ }
+{
+    match col {
         4 => BUS_1,
         5 => BUS_2,
         6 => BUS_4,
         7 => BUS_6,
-        8 => BUS_8,
+        _ => BUS_8,
+    }
+}
+
+fn wb50(col: usize) -> [Hundredths; 16]
+    requires { ⌜ (9 ≤ col) × (col < 14) ⌝ }
+    ensures { λ r. ⌜ r ≡ columnIn table col ⌝ }
+{
+    match col {
         9 => WB50_0,
         10 => WB50_2,
         11 => WB50_4,
         12 => WB50_6,
-        13 => WB50_8,
-        _ => [Hundredths(0); 16],
+        _ => WB50_8,
     }
+}
+
+// A column of the table; past the last, only zeros.
+fn column(col: usize) -> [Hundredths; 16]
+    ensures { λ r. ⌜ r ≡ columnIn table col ⌝ }
+{
+    if col < 4 {
+        return su(col);
+    }
+    if col < 9 {
+        return bus(col);
+    }
+    if col < 14 {
+        return wb50(col);
+    }
+    [Hundredths(0); 16]
 }
 
 // What the table has at a column and a row; 0 outside it.

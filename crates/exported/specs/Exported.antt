@@ -3,10 +3,10 @@ use Prim.Native.Nat.{ℕ}
 use mathlib.Core.List.{List}
 use Rattle.units.specs.Numbers.{pick}
 use Rattle.sheet.specs.Refusals.{isFine, codeOf}
-use Rattle.reader.specs.declared.Reading.{Reading}
+use Rattle.text.specs.declared.Reading.{Reading}
 use Rattle.lines.specs.Worksheet.{worksheetOf, inOrder}
-use Rattle.writer.specs.declared.Written.{Written}
-use Rattle.writer.specs.Write.{writtenOf, bytesOf}
+use Rattle.text.specs.declared.Written.{Written}
+use Rattle.text.specs.Write.{writtenOf, bytesOf}
 
 -- the lines of a text that was read; what was there before, where it was refused
 unfoldable pub linesOf : Reading → List ℕ → List ℕ

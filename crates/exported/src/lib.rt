@@ -2,9 +2,9 @@
 ghost use mathlib.Core.Path.{_≡_};
 ghost use lib.ListN.{length};
 ghost use Rattle.sheet.specs.Refusals.{codeOf};
-ghost use Rattle.reader.specs.Read.{readOf};
+ghost use Rattle.text.specs.Read.{readOf};
 ghost use Rattle.exported.specs.Exported.{linesOf, replyOf, lengthOf, bytesAfter};
-use writer::Written;
+use text::Written;
 
 // Works out the lines of a text. A refusal leaves the array as it is.
 #[no_mangle]

@@ -2,9 +2,15 @@
 // in their order (`numbers`), its stage as `state` numbers it, without the times, and the times: those spent in the light and by the walker, and the count.
 ghost use mathlib.Core.Path.{_≡_};
 ghost use Rattle.sheet.specs.Refusals.{codeOf};
-ghost use Rattle.exported_unit.specs.Exported.{unitOf, stageNumbers, timesOf, commandOf, loadFrom, moreTicks, moreRuns, unitReply, ticksFrom};
+ghost use Rattle.unit.specs.Unit.{nowOf};
+ghost use Rattle.unit.specs.Runs.{answerTo};
+ghost use Rattle.running.specs.Running.{replyTo};
+ghost use Rattle.exported_unit.specs.Exported.{stateFrom, unitOf, stageNumbers, timesOf, commandOf, eventOf, toldBy, moreTicks, moreRuns, eventFrom, ticksFrom};
+use flow::Now;
 use rows::NUMBERS;
 use running::Answered;
+use running::Running;
+use sheet::Answer;
 use stage::Command;
 use state::State;
 use unit::Reply;
@@ -14,11 +20,16 @@ const STAGE: usize = 7;
 
 const TIMES: usize = 3;
 
-fn unit_of(sheet: &[u32; NUMBERS], stage: &[u32; STAGE], times: &[u64; TIMES]) -> Unit
-    ensures { λ r. ⌜ r ≡ unitOf (now (sheet .entry)) (now (stage .entry)) (now (times .entry)) ⌝ }
+// What is told of a reply: the answer, and what the unit then shows and counts.
+pub struct Told {
+    pub answer: Answer,
+    pub now: Now,
+}
+
+fn state_of(stage: &[u32; STAGE], times: &[u64; TIMES]) -> State
+    ensures { λ r. ⌜ r ≡ stateFrom (now (stage .entry)) (now (times .entry)) ⌝ }
 {
-    let s = from_numbers::sheet_of(sheet);
-    let n = State {
+    State {
         kind: stage[0],
         place: stage[1],
         follows: stage[2],
@@ -28,22 +39,28 @@ fn unit_of(sheet: &[u32; NUMBERS], stage: &[u32; STAGE], times: &[u64; TIMES]) -
         spent: times[0],
         walker: stage[6],
         walked: times[1],
-    };
-    let shown = from_state::stage_of(n);
+    }
+}
+
+fn unit_of(sheet: &[u32; NUMBERS], stage: &[u32; STAGE], times: &[u64; TIMES]) -> Unit
+    ensures { λ r. ⌜ r ≡ unitOf (now (sheet .entry)) (now (stage .entry)) (now (times .entry)) ⌝ }
+{
+    let held = from_numbers::sheet_of(sheet);
+    let shown = from_state::stage_of(state_of(stage, times));
     Unit {
-        sheet: s,
+        sheet: held,
         stage: shown,
         count: times[2],
     }
 }
 
-// Stores the unit of a reply and tells the answer.
-fn answered(reply: Reply, stage: &mut [u32; STAGE], times: &mut [u64; TIMES]) -> u64
-    ensures { λ r. ⌜ (r ≡ codeOf (reply .answer)) × (now (stage .exit) ≡ stageNumbers (reply .unit)) × (now (times .exit) ≡ timesOf (reply .unit)) ⌝ }
+// Stores what the unit shows and counts, and gives the answer as one number.
+fn stored(told: Told, stage: &mut [u32; STAGE], times: &mut [u64; TIMES]) -> u64
+    ensures { λ r. ⌜ (r ≡ codeOf (told .answer)) × (now (stage .exit) ≡ stageNumbers (told .now)) × (now (times .exit) ≡ timesOf (told .now)) ⌝ }
 {
-    let unit = reply.unit;
-    let shown = unit.stage;
-    let answer = reply.answer;
+    let later = told.now;
+    let shown = later.stage;
+    let answer = told.answer;
     let n = to_state::numbers_of(shown);
     *stage = [
         n.kind,
@@ -54,7 +71,7 @@ fn answered(reply: Reply, stage: &mut [u32; STAGE], times: &mut [u64; TIMES]) ->
         n.light,
         n.walker,
     ];
-    *times = [n.spent, n.walked, unit.count];
+    *times = [n.spent, n.walked, later.count];
     numbering::code(answer)
 }
 
@@ -69,26 +86,20 @@ fn command_of(n: u32) -> Command
     }
 }
 
-// The loader, for the unit held: where the load is taken, the sheet held is the one offered.
-#[no_mangle]
-pub extern "C" fn lettofrisk_load(
-    sheet: &[u32; NUMBERS],
-    stage: &mut [u32; STAGE],
-    times: &mut [u64; TIMES],
-    offered: &[u32; NUMBERS],
-) -> u64
-    ensures { λ r. ⌜ (r ≡ codeOf (loadFrom (now (sheet .entry)) (now (stage .entry)) (now (times .entry)) (now (offered .entry)) .answer))
-        × (now (stage .exit) ≡ stageNumbers (loadFrom (now (sheet .entry)) (now (stage .entry)) (now (times .entry)) (now (offered .entry)) .unit))
-        × (now (times .exit) ≡ timesOf (loadFrom (now (sheet .entry)) (now (stage .entry)) (now (times .entry)) (now (offered .entry)) .unit)) ⌝ }
+// The event: 0 for the loader, else a tick with the command that the number is one more than.
+fn first(unit: Unit, event: u32, offered: &[u32; NUMBERS], call: bool) -> Reply
+    ensures { λ r. ⌜ r ≡ answerTo unit (eventOf event (now (offered .entry)) call) ⌝ }
 {
-    let s = from_numbers::sheet_of(offered);
-    let held = unit_of(sheet, stage, times);
-    answered(held.load(s), stage, times)
+    if event == 0 {
+        unit.load(from_numbers::sheet_of(offered))
+    } else {
+        unit.tick(command_of(event - 1), call)
+    }
 }
 
 // So many ticks more, without a command. The answer stays that of the first.
-fn ticks(first: Reply, call: bool, more: u32) -> Reply
-    ensures { λ r. ⌜ r ≡ moreTicks first call more ⌝ }
+fn ticks(first: Reply, call: bool, more: u32) -> Told
+    ensures { λ r. ⌜ r ≡ toldBy (moreTicks first call more) ⌝ }
 {
     let mut unit = first.unit;
     let answer = first.answer;
@@ -99,85 +110,91 @@ fn ticks(first: Reply, call: bool, more: u32) -> Reply
         unit = later;
         i += 1;
     }
-    Reply {
-        unit: unit,
+    let stage = unit.stage;
+    let now = Now {
+        stage: stage,
+        count: unit.count,
+    };
+    Told {
         answer: answer,
+        now: now,
     }
 }
 
-// A tick with the command, whose answer is the reply, and `more` ticks without one, the call on or off in all of them.
-#[no_mangle]
-pub extern "C" fn lettofrisk_ticks(
-    sheet: &[u32; NUMBERS],
-    stage: &mut [u32; STAGE],
-    times: &mut [u64; TIMES],
-    command: u32,
-    call: bool,
-    more: u32,
-) -> u64
-    ensures { λ r. ⌜ (r ≡ codeOf (ticksFrom (now (sheet .entry)) (now (stage .entry)) (now (times .entry)) command call more .answer))
-        × (now (stage .exit) ≡ stageNumbers (ticksFrom (now (sheet .entry)) (now (stage .entry)) (now (times .entry)) command call more .unit))
-        × (now (times .exit) ≡ timesOf (ticksFrom (now (sheet .entry)) (now (stage .entry)) (now (times .entry)) command call more .unit)) ⌝ }
+// The same event, and the same ticks, of a running unit.
+fn first_running(running: Running, event: u32, offered: &[u32; NUMBERS], call: bool) -> Answered
+    ensures { λ r. ⌜ r ≡ replyTo running (eventOf event (now (offered .entry)) call) ⌝ }
 {
-    let unit = unit_of(sheet, stage, times);
-    let first = unit.tick(command_of(command), call);
-    answered(ticks(first, call, more), stage, times)
+    if event == 0 {
+        running_start::load(running, from_numbers::sheet_of(offered))
+    } else {
+        running_tick::tick(running, command_of(event - 1), call)
+    }
 }
 
-// So many ticks more of a running unit.
-fn ran(first: Answered, call: bool, more: u32) -> Answered
+fn ran(first: Answered, call: bool, more: u32) -> Told
     ensures { λ r. ⌜ r ≡ moreRuns first call more ⌝ }
 {
     let mut running = first.running;
     let answer = first.answer;
     let mut i: u32 = 0;
     while i < more {
-        let ran = running.tick(Command::None, call);
+        let ran = running_tick::tick(running, Command::None, call);
         let later = ran.running;
         running = later;
         i += 1;
     }
-    Answered {
-        running: running,
-        answer: answer,
-    }
-}
-
-fn reply_of(answered: Answered) -> Reply
-    ensures { λ r. ⌜ r ≡ unitReply answered ⌝ }
-{
-    let running = answered.running;
-    let answer = answered.answer;
-    let sheet = running.sheet;
     let now = running.now;
-    let stage = now.stage;
-    let unit = Unit {
-        sheet: sheet,
-        stage: stage,
-        count: now.count,
-    };
-    Reply {
-        unit: unit,
+    Told {
         answer: answer,
+        now: now,
     }
 }
 
-// The ticks of `lettofrisk_ticks` by a running unit: the unit is checked and the lengths of its sheet worked out once for all of them.
+fn told_by(
+    unit: Unit,
+    event: u32,
+    offered: &[u32; NUMBERS],
+    call: bool,
+    more: u32,
+    kept: bool,
+) -> Told
+    ensures { λ r. ⌜ r ≡ toldBy (eventFrom unit event (now (offered .entry)) call more) ⌝ }
+{
+    if kept {
+        ran(
+            first_running(take_over::take_over(unit), event, offered, call),
+            call,
+            more,
+        )
+    } else {
+        ticks(first(unit, event, offered, call), call, more)
+    }
+}
+
+// An event, whose answer is the reply, and `more` ticks without a command, the call on or off in all of them. The event is 0 for a load of the sheet
+// offered, 1 for a tick without a command, n + 2 for a tick with end, next n. Where a load is taken, the sheet held is the one offered.
+// The reply does not hang on `kept`: where it is true the ticks are a running unit's, which is checked, and the lengths of its sheet worked out, once
+// for all of them; else each tick checks the unit whole.
 #[no_mangle]
-pub extern "C" fn lettofrisk_running(
+pub extern "C" fn lettofrisk_unit(
     sheet: &[u32; NUMBERS],
     stage: &mut [u32; STAGE],
     times: &mut [u64; TIMES],
-    command: u32,
+    offered: &[u32; NUMBERS],
+    event: u32,
     call: bool,
     more: u32,
+    kept: bool,
 ) -> u64
-    ensures { λ r. ⌜ (r ≡ codeOf (ticksFrom (now (sheet .entry)) (now (stage .entry)) (now (times .entry)) command call more .answer))
-        × (now (stage .exit) ≡ stageNumbers (ticksFrom (now (sheet .entry)) (now (stage .entry)) (now (times .entry)) command call more .unit))
-        × (now (times .exit) ≡ timesOf (ticksFrom (now (sheet .entry)) (now (stage .entry)) (now (times .entry)) command call more .unit)) ⌝ }
+    ensures { λ r. ⌜ (r ≡ codeOf (ticksFrom (now (sheet .entry)) (now (stage .entry)) (now (times .entry)) (now (offered .entry)) event call more .answer))
+        × (now (stage .exit) ≡ stageNumbers (nowOf (ticksFrom (now (sheet .entry)) (now (stage .entry)) (now (times .entry)) (now (offered .entry)) event call more .unit)))
+        × (now (times .exit) ≡ timesOf (nowOf (ticksFrom (now (sheet .entry)) (now (stage .entry)) (now (times .entry)) (now (offered .entry)) event call more .unit))) ⌝ }
 {
-    let kept = unit_of(sheet, stage, times);
-    let taken = running::take_over(kept);
-    let first = taken.tick(command_of(command), call);
-    answered(reply_of(ran(first, call, more)), stage, times)
+    let unit = unit_of(sheet, stage, times);
+    stored(
+        told_by(unit, event, offered, call, more, kept),
+        stage,
+        times,
+    )
 }

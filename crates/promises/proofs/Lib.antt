@@ -1,10 +1,8 @@
 pub mod Between
 pub mod Coming
-pub mod Computed
 pub mod Counting
 pub mod Demand
 pub mod Greens
-pub mod Instances
 pub mod Loads
 pub mod Own
 pub mod Sheets

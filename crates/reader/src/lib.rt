@@ -8,8 +8,8 @@ ghost use Rattle.rows.specs.Table.{plain, rowCount, numberCount, rangeOf, width
 ghost use Rattle.faults.specs.Lines.{rowFault};
 ghost use Rattle.figures.specs.declared.Figure.the-variants.{Is};
 ghost use Rattle.figures.specs.Figures.{onPlace, afterAt};
-ghost use Rattle.reader.specs.Line.{wordAt, fieldAt, soFar, bad, fields, ended};
-ghost use Rattle.reader.specs.Read.{step, judgedAt, endAt, linesFrom, reply, readOf};
+ghost use Rattle.text.specs.Line.{wordAt, fieldAt, soFar, bad, fields, ended};
+ghost use Rattle.text.specs.Read.{step, judgedAt, endAt, linesFrom, reply, readOf};
 use figures::Figure;
 use figures::Place;
 use rows::Key;
@@ -18,6 +18,7 @@ use rows::ROWS;
 use sheet::Answer;
 use sheet::Refusal;
 use sheet::Sheet;
+use text::Reading;
 
 // What was read of a line: whether it is well made, and the place past it. Its numbers are stored in the array lent.
 pub struct Found {
@@ -29,12 +30,6 @@ pub struct Found {
 pub struct Reached {
     pub answer: Answer,
     pub next: usize,
-}
-
-// The answer to a text, and its sheet, which is the zero sheet where the answer is a refusal.
-pub struct Reading {
-    pub answer: Answer,
-    pub sheet: Sheet,
 }
 
 // The number x where the word w stands at a place, and what the other words gave elsewhere.

@@ -38,7 +38,7 @@ same-tick u c call = split (unit.fits u) (fit-tick u c call) (unfit-tick u c cal
 pub same-load : SameLoad
 same-load u s = refl
 
-same-reply : (u : Unit) (e : Event) → replyTo (runningOf u) e ≡ withReply (answerTo u e)
+pub same-reply : (u : Unit) (e : Event) → replyTo (runningOf u) e ≡ withReply (answerTo u e)
 unfolding replyTo answerTo
 same-reply u (tick c call) = same-tick u c call
 same-reply u (load s) = same-load u s

@@ -1,9 +1,9 @@
 // The bench: a site sheet on standard input, a line `run`, then one event a line; on standard output what the unit shows.
 use libc::STDIN_FILENO;
-use reader::Reading;
 use running::Running;
 use sheet::Answer;
 use stage::Command;
+use text::Reading;
 
 mod marks;
 mod prints;
@@ -39,7 +39,7 @@ fn ticks(first: Running, from: u64, command: Command, call: bool, count: u32) ->
     let mut tick = from;
     let mut i: u32 = 0;
     while i < count {
-        let reply = unit.tick(command, call);
+        let reply = running_tick::tick(unit, command, call);
         let next = reply.running;
         let answer = reply.answer;
         tick = std::num::wrapping_add_u64(tick, 1);
@@ -62,7 +62,7 @@ fn read(s: &[u8], start: usize, end: usize) -> Reading {
 
 // A text offered to the loader: a refusal of the reading is the reply. Its sheet is then all zeros, which the loader refuses too.
 fn load(unit: Running, tick: u64, reading: Reading) -> Running {
-    let reply = unit.load(reading.sheet);
+    let reply = running_start::load(unit, reading.sheet);
     let after = reply.running;
     let read = reading.answer;
     let loaded = reply.answer;
@@ -121,7 +121,7 @@ fn bench(s: &[u8]) {
     let reading = read(s, 0, run.start);
     let answer = reading.answer;
     if answers::is_fine(answer) {
-        let started = running::start(reading.sheet);
+        let started = running_start::start(reading.sheet);
         let unit = started.running;
         let fine = started.answer;
         prints::state(0, unit, fine);

@@ -4,7 +4,6 @@ use mathlib.Core.Bool.{Bool}
 use mathlib.Core.List.{List, [], _∷_}
 use Prim.Native.Nat.{ℕ, zero, suc, _<_, _≤_}
 use native.Mathlib.Nat.{le-trans}
-use native.Mathlib.Omega.{arith}
 use lib.Dec.{T, leb, leb→le}
 use lib.ListN.{getD, length, replicate, List·getD-eq-default}
 use Rattle.units.specs.Numbers.{hundredths}
@@ -70,6 +69,3 @@ no-entries (row ∷ rows) col t h =
 pub no-column : (col : ℕ) → 14 ≤ col → replicate 16 (hundredths 0) ≡ columnIn table col
 unfolding table
 no-column col h = no-entries table col tt h
-
-pub above : (k n : ℕ) → k ≤ n → (n ≡ k → ⊥) → suc k ≤ n
-above k n h e = omega arith

@@ -4,7 +4,7 @@ ghost use Prim.Native.Nat.{_≤_, _+_};
 ghost use lib.Seq.{sets};
 ghost use Rattle.sheet.specs.Zero.{zeroPhase, zeroPoint};
 ghost use Rattle.rows.specs.Table.{mostPhases, mostPoints, numberCount, placeFor};
-ghost use Rattle.numbers.specs.Flat.{vehicleNumber, gradeNumber, phaseNumbers, pointNumbers, numbersFrom, flatOf};
+ghost use Rattle.numbers.specs.Flat.{vehicleNumber, phaseNumbers, pointNumbers, numbersFrom, flatOf};
 use rows::NUMBERS;
 use rows::table;
 use rows::table::MOST_PHASES;
@@ -22,18 +22,6 @@ fn vehicle_number(vehicle: Vehicle) -> u32
         Vehicle::Su => 1,
         Vehicle::Bus => 2,
         Vehicle::Wb50 => 3,
-    }
-}
-
-// A grade as its number in the table.
-pub fn grade_number(grade: i16) -> u32
-    ensures { λ r. ⌜ r ≡ gradeNumber grade ⌝ }
-{
-    let w = grade as i32;
-    if w < 0 {
-        1000000 - (0 - w) as u32
-    } else {
-        1000000 + w as u32
     }
 }
 
@@ -92,7 +80,7 @@ pub fn flat(s: Sheet) -> [u32; NUMBERS]
     let mut v = [0u32; NUMBERS];
     v[table::ISSUE] = s.issue;
     v[table::VEHICLE] = vehicle_number(vehicle);
-    v[table::GRADE] = grade_number(s.grade);
+    v[table::GRADE] = graded::grade_number(s.grade);
     v[table::L01] = s.l01;
     v[table::L02] = s.l02;
     v[table::PHASES] = s.phase_count;

@@ -17,7 +17,7 @@ use Rattle.rows.specs.Table.{placeFor, firstPhase, firstPoint, rowCount, Range,
 use Rattle.numbers.specs.Flat.{phasePlace, pointPlace, phaseAt, pointAt}
 use Rattle.faults.specs.Lines.{phaseFault, startsAtZero, pointRises, beforePhase, pointFits, ruleFault, rowFault}
 use Rattle.faults.proofs.Sound.{phase-place, point-place}
-use Rattle.writer.specs.Text.{fieldsText, rowText}
+use Rattle.text.specs.Text.{fieldsText, rowText}
 use Rattle.rows.proofs.Tables.{pastPhases}
 
 -- the numbers v and w agree below a place, or between two

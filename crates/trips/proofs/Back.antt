@@ -17,13 +17,13 @@ use Rattle.rows.specs.Table.{rowCount, numberCount, formOf, keyOf, widthOf, pla
 use Rattle.rows.specs.Marks.{markOf, lineFeed}
 use Rattle.rows.proofs.Tables.{place-room}
 use Rattle.faults.specs.Lines.{rowFault, hereFault, lineAfter, faultFrom}
-use Rattle.reader.specs.Line.{Taken}
-use Rattle.reader.specs.Read.{Step}
+use Rattle.text.specs.Line.{Taken}
+use Rattle.text.specs.Read.{Step}
 use Rattle.figures.specs.declared.Place.the-variants.{At}
 use Rattle.figures.specs.Figures.{afterAt}
-use Rattle.reader.specs.Line.{fieldAt, bad, good, fields, ended, lineAt}
-use Rattle.reader.specs.Read.{judgedAt, endAt, onStep, hereAt, linesFrom, linesOf}
-use Rattle.writer.specs.Text.{fieldsText, rowText, hereText, textFrom}
+use Rattle.text.specs.Line.{fieldAt, bad, good, fields, ended, lineAt}
+use Rattle.text.specs.Read.{judgedAt, endAt, onStep, hereAt, linesFrom, linesOf}
+use Rattle.text.specs.Text.{fieldsText, rowText, hereText, textFrom}
 use Rattle.trips.proofs.Cuts.{Cut, cut-then}
 use Rattle.trips.proofs.Figures.{after-back}
 use Rattle.trips.proofs.Fields.{byPlace, byFigure, field-back}

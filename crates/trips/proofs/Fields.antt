@@ -16,10 +16,10 @@ use Rattle.figures.specs.declared.Figure.the-variants.{Bad, Is}
 use Rattle.figures.specs.declared.Place.{Place}
 use Rattle.figures.specs.declared.Place.the-variants.{Nowhere, At}
 use Rattle.figures.specs.Figures.{digitOf, number, after, numberAt, afterAt, signedAt}
-use Rattle.reader.specs.Line.{namedAt, wordAt, fieldAt}
+use Rattle.text.specs.Line.{namedAt, wordAt, fieldAt}
 use Rattle.figures.proofs.Small.{bad-is, number-small}
-use Rattle.writer.specs.Digits.{digits}
-use Rattle.writer.specs.Text.{figures, signedText, fieldText}
+use Rattle.text.specs.Digits.{digits}
+use Rattle.text.specs.Text.{figures, signedText, fieldText}
 use Rattle.trips.proofs.Cuts.{Cut, cut-then, cut-same, past}
 use Rattle.trips.proofs.Figures.{number-back, number-read, after-back, after-read}
 

@@ -12,8 +12,8 @@ use Rattle.figures.specs.declared.Figure.the-variants.{Is}
 use Rattle.figures.specs.declared.Place.the-variants.{Nowhere, At}
 use Rattle.figures.specs.Figures.{digitOf, more, number, after, numberAt, afterAt}
 use Rattle.figures.proofs.Small.{bad-is}
-use Rattle.writer.specs.Digits.{digitsIn, digits}
-use Rattle.writer.proofs.Decimals.{ten, digits-more}
+use Rattle.text.specs.Digits.{digitsIn, digits}
+use Rattle.text.proofs.Decimals.{ten, digits-more}
 use Rattle.trips.proofs.Cuts.{Begins, Cut, cut}
 
 -- ---- a digit's byte and its value

@@ -23,9 +23,9 @@ use Rattle.faults.proofs.Rows.{in-each}
 use Rattle.figures.specs.declared.Place.the-variants.{At}
 use Rattle.figures.specs.declared.Figure.the-variants.{Is}
 use Rattle.figures.specs.Figures.{digitOf, afterAt}
-use Rattle.reader.specs.Line.{fieldAt, good, fields, lineAt}
-use Rattle.reader.specs.Read.{step, judgedAt, endAt, hereAt, linesFrom, linesOf}
-use Rattle.writer.specs.Text.{fieldText, fieldsText, rowText, hereText, textFrom}
+use Rattle.text.specs.Line.{fieldAt, good, fields, lineAt}
+use Rattle.text.specs.Read.{step, judgedAt, endAt, hereAt, linesFrom, linesOf}
+use Rattle.text.specs.Text.{fieldText, fieldsText, rowText, hereText, textFrom}
 use Rattle.trips.proofs.Cuts.{past}
 use Rattle.trips.proofs.Figures.{after-read}
 use Rattle.trips.proofs.Fields.{domain, Sayable, field-read}

@@ -16,13 +16,13 @@ use Rattle.rows.specs.Marks.{markOf, minus, lineFeed, wordOf}
 use Rattle.numbers.specs.Flat.{sheetOf}
 use Rattle.faults.specs.Lines.{lineAfter}
 use Rattle.faults.specs.Whole.{wholeFault}
-use Rattle.reader.specs.Line.{Taken}
-use Rattle.reader.specs.Read.{Step}
+use Rattle.text.specs.Line.{Taken}
+use Rattle.text.specs.Read.{Step}
 use Rattle.figures.specs.Figures.{digitOf, more, number, after, numberAt, afterAt, signedAt}
-use Rattle.reader.specs.Line.{wordAt, fieldAt, good, fields, ended, lineAt}
-use Rattle.reader.specs.Read.{judgedAt, endAt, onStep, hereAt, linesFrom, reply, readOf}
+use Rattle.text.specs.Line.{wordAt, fieldAt, good, fields, ended, lineAt}
+use Rattle.text.specs.Read.{judgedAt, endAt, onStep, hereAt, linesFrom, reply, readOf}
 use Rattle.rows.specs.Longest.{longestField, longestFields, longestRow, longestFrom, longest}
-use Rattle.writer.proofs.Lengths.{short-word, short-field, mark-long}
+use Rattle.text.proofs.Lengths.{short-word, short-field, mark-long}
 use Rattle.trips.specs.Promises.{CutIsSame}
 use Rattle.trips.proofs.Figures.{after-back}
 use Rattle.trips.proofs.Fields.{byPlace, byFigure, field-back}

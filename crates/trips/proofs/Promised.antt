@@ -24,13 +24,13 @@ use Rattle.faults.specs.Whole.{wholeFault, acceptOf}
 use Rattle.faults.specs.Ranges.{Between}
 use Rattle.faults.proofs.Rows.{in-each, fine-rows, row-ranges}
 use Rattle.faults.proofs.Sound.{sound}
-use Rattle.reader.specs.declared.Reading.{Reading}
-use Rattle.reader.specs.Read.{Step}
-use Rattle.reader.specs.Read.{linesOf, reply, readOf}
-use Rattle.writer.specs.Text.{textFrom, textOf}
-use Rattle.writer.specs.Write.{answerTo, writtenOf, bytesOf}
+use Rattle.text.specs.declared.Reading.{Reading}
+use Rattle.text.specs.Read.{Step}
+use Rattle.text.specs.Read.{linesOf, reply, readOf}
+use Rattle.text.specs.Text.{textFrom, textOf}
+use Rattle.text.specs.Write.{answerTo, writtenOf, bytesOf}
 use Rattle.sheet.specs.Entries.{Shaped}
-use Rattle.writer.proofs.Lengths.{short-text}
+use Rattle.text.proofs.Lengths.{short-text}
 use Rattle.trips.specs.Promises.{Blank, withEntries, trimmed, SheetToText, SheetToSheet, TextToText, ReadIsAccepted, WriteRefusesAlike, WrittenIsText, TextIsShort, ReadIsShort}
 use Rattle.trips.proofs.Kept.{kept-long, kept-same}
 use Rattle.trips.proofs.Back.{text-back}

@@ -23,7 +23,7 @@ use Rattle.transfer.specs.Transfer.{trackFits}
 use Rattle.faults.specs.Lines.{hereFault, lineAfter, ruleFault, faultFrom}
 use Rattle.faults.specs.Whole.{leastWarning, line48, wholeFault}
 use Rattle.faults.proofs.Sound.{phase-in, point-in, phases-at, points-at, phase-kind, phase-place, point-kind, point-place}
-use Rattle.writer.specs.Text.{hereText, textFrom}
+use Rattle.text.specs.Text.{hereText, textFrom}
 use Rattle.trips.specs.Promises.{trimmed}
 use Rattle.trips.proofs.Kept.{kept-at, kept-past, kept-take}
 use Rattle.trips.proofs.Agree.{Row, row-agree, present-agree, rule-agree, fault-agree, before-agree, fits-agree, phase-row, point-row}

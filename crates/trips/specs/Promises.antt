@@ -14,9 +14,9 @@ use Rattle.sheet.specs.Zero.{zeroPhase, zeroPoint}
 use Rattle.rows.specs.Table.{mostPhases, mostPoints}
 use Rattle.rows.specs.Longest.{longest}
 use Rattle.faults.specs.Whole.{acceptOf}
-use Rattle.reader.specs.Read.{readOf}
-use Rattle.writer.specs.Text.{textOf}
-use Rattle.writer.specs.Write.{writtenOf, bytesOf}
+use Rattle.text.specs.Read.{readOf}
+use Rattle.text.specs.Text.{textOf}
+use Rattle.text.specs.Write.{writtenOf, bytesOf}
 
 -- "Array entries past a count are no part of a sheet": the first n entries, and zeros for the rest
 unfoldable pub kept : {A : Type 0} → A → ℕ → List A → List A

@@ -1,1 +1,1 @@
-// The round trips of sheets and texts: theorems over the reader's and the writer's definitions, and no code.
+// The round trips of sheets and texts: theorems over the definitions of `text`, and no code.

@@ -6,9 +6,9 @@ ghost use lib.Dec.{leb};
 ghost use lib.ListN.{length, take};
 ghost use Rattle.rows.specs.Table.{rowCount, numberCount};
 ghost use Rattle.rows.specs.Marks.{markOf, wordOf};
-ghost use Rattle.writer.specs.Digits.{digits};
-ghost use Rattle.writer.specs.Text.{signedText, fieldText, fieldsText, rowText, textFrom};
-ghost use Rattle.writer.specs.Write.{Put, writtenOf, bytesOf};
+ghost use Rattle.text.specs.Digits.{digits};
+ghost use Rattle.text.specs.Text.{signedText, fieldText, fieldsText, rowText, textFrom};
+ghost use Rattle.text.specs.Write.{Put, writtenOf, bytesOf};
 use longest::LONGEST;
 use rows::NUMBERS;
 use rows::ROWS;
@@ -18,12 +18,7 @@ use rows::table::MOST_POINTS;
 use sheet::Answer;
 use sheet::Refusal;
 use sheet::Sheet;
-
-// The answer to writing a sheet, and the text's length, which is 0 where the answer is a refusal.
-pub struct Written {
-    pub answer: Answer,
-    pub length: usize,
-}
+use text::Written;
 
 // How long the line of a phase, that of a point, and all the others together can be.
 const PHASE_LINE: usize = 62;

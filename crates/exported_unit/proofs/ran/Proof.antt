@@ -36,7 +36,7 @@ loop-again c =
 
 returns : tie.Need-returns Inv-loop μ-loop
 returns c =
-    ap (λ (r : Running). record { running = r; answer = c .before .before .before .args .first .answer }) (sym (no-run-left (c .before .before .before .args .call) (c .before .before .before .args .more) (c .before .loop .i) (c .before .loop .running) (c .loop-test .left)) ∙ c .before .loop .inv .1)
+    ap (λ (r : Running). record { answer = c .before .before .before .before .args .first .answer; now = r .now }) (sym (no-run-left (c .before .before .before .before .args .call) (c .before .before .before .before .args .more) (c .before .before .loop .i) (c .before .before .loop .running) (c .before .loop-test .left)) ∙ c .before .before .loop .inv .1)
 
 pub ran-spec : {M : Type 1} → statement M
 ran-spec =

@@ -4,6 +4,7 @@ use mathlib.Core.Path.{_≡_, sym, _∙_, ap}
 use native.Mathlib.Nat.{sub-zero}
 use Rattle.unit.specs.declared.Unit.{Unit}
 use Rattle.unit.specs.declared.Reply.{Reply}
+use Rattle.unit.specs.Unit.{nowOf}
 use Rattle.exported_unit.proofs.Again.{ticked, tick-left, none-left}
 use borrow.Author.Needs.{needs}
 use native.Mathlib.Omega.{arith}
@@ -35,7 +36,7 @@ loop-again c =
 
 returns : tie.Need-returns Inv-loop μ-loop
 returns c =
-    ap (λ (u : Unit). record { unit = u; answer = c .before .before .before .args .first .answer }) (sym (none-left (c .before .before .before .args .call) (c .before .before .before .args .more) (c .before .loop .i) (c .before .loop .unit) (c .loop-test .left)) ∙ c .before .loop .inv .1)
+    ap (λ (u : Unit). record { answer = c .before .before .before .args .first .answer; now = nowOf u }) (sym (none-left (c .before .before .before .args .call) (c .before .before .before .args .more) (c .before .loop .i) (c .before .loop .unit) (c .loop-test .left)) ∙ c .before .loop .inv .1)
 
 pub ticks-spec : {M : Type 1} → statement M
 ticks-spec =

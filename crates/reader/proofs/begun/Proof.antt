@@ -4,8 +4,8 @@ use Rattle.sheet.proofs.Answers.{fine-or, bad-or}
 use Rattle.sheet.specs.declared.Answer.{Answer}
 use Rattle.numbers.specs.Flat.{sheetOf}
 use Rattle.faults.specs.Whole.{wholeFault}
-use Rattle.reader.specs.Read.{reply, readOf}
-use Rattle.reader.proofs.Cases.{reply-bad}
+use Rattle.text.specs.Read.{reply, readOf}
+use Rattle.text.proofs.Cases.{reply-bad}
 use borrow.Author.Needs.{needs}
 use Rattle.reader.proofs.begun.Statement.{statement}
 use Rattle.reader.proofs.begun.Tie as tie

@@ -1,6 +1,6 @@
 -- `reader::end` meets its contract: the text is over, or not. Assumes nothing.
 use Rattle.units.proofs.Steps.{steps}
-use Rattle.reader.specs.Read.{endAt}
+use Rattle.text.specs.Read.{endAt}
 use Rattle.reader.proofs.end.Statement.{statement}
 use Rattle.reader.proofs.end.Tie as tie
 

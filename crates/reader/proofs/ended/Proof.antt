@@ -3,7 +3,7 @@ use mathlib.Core.Path.{_≡_, sym, _∙_, refl}
 use Rattle.units.proofs.Steps.{pick-yes, pick-not, never}
 use Rattle.rows.specs.Marks.{lineFeed}
 use Rattle.figures.specs.Figures.{afterAt}
-use Rattle.reader.proofs.Cases.{fed-in}
+use Rattle.text.proofs.Cases.{fed-in}
 use borrow.Author.Needs.{needs}
 use Rattle.reader.proofs.ended.Statement.{statement}
 use Rattle.reader.proofs.ended.Tie as tie

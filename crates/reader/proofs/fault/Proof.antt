@@ -2,7 +2,7 @@
 use mathlib.Core.Path.{_≡_}
 use Rattle.rows.specs.Table.{widthOf}
 use Rattle.rows.proofs.Tables.{place-room}
-use Rattle.reader.proofs.Rows.{too-small, too-large, inside}
+use Rattle.text.proofs.Rows.{too-small, too-large, inside}
 use native.Mathlib.Omega.{arith}
 use borrow.Author.Needs.{needs}
 use Rattle.reader.proofs.fault.Statement.{statement}

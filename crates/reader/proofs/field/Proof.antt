@@ -2,7 +2,7 @@
 use borrow.Author.Needs.{needs}
 use Rattle.units.proofs.Steps.{pick-yes, pick-not}
 use borrow.Author.Tests.{eq-eqb, ne-eqb}
-use Rattle.reader.specs.Line.{fieldAt}
+use Rattle.text.specs.Line.{fieldAt}
 use Rattle.reader.proofs.field.Statement.{statement}
 use Rattle.reader.proofs.field.Tie as tie
 

@@ -2,7 +2,7 @@
 use mathlib.Core.Path.{sym, _∙_}
 use Rattle.units.specs.Numbers.{pick}
 use Rattle.rows.specs.Marks.{markOf}
-use Rattle.reader.proofs.Cases.{first-no-mark, first-no-number, first-step}
+use Rattle.text.proofs.Cases.{first-no-mark, first-no-number, first-step}
 use native.Mathlib.Omega.{arith}
 use borrow.Author.Needs.{needs}
 use Rattle.reader.proofs.fields.Statement.{statement}

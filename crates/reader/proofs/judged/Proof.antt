@@ -8,9 +8,9 @@ use Rattle.rows.specs.Table.{plain}
 use Rattle.rows.proofs.Tables.{place-room}
 use Rattle.rows.proofs.Keys.{facts-key, facts-short, facts-form}
 use Rattle.figures.specs.Figures.{onPlace, afterAt}
-use Rattle.reader.specs.Line.{bad, fields, ended, lineAt}
-use Rattle.reader.specs.Read.{judgedAt, step}
-use Rattle.reader.proofs.Rows.{facts-long, width-some, wide-plain}
+use Rattle.text.specs.Line.{bad, fields, ended, lineAt}
+use Rattle.text.specs.Read.{judgedAt, step}
+use Rattle.text.proofs.Rows.{facts-long, width-some, wide-plain}
 use native.Mathlib.Omega.{arith}
 use borrow.Author.Needs.{needs}
 use Rattle.reader.proofs.judged.Statement.{statement}

@@ -1,6 +1,6 @@
 -- `reader::key` meets its contract: letter by letter, where the text is long enough. Assumes nothing.
 use Prim.Native.Nat.{_-_, _≤_}
-use Rattle.reader.proofs.Letters.{From, too-short, letter-ne, letter-same, letters-end, first-ne, second-ne, third-ne, three-same}
+use Rattle.text.proofs.Letters.{From, too-short, letter-ne, letter-same, letters-end, first-ne, second-ne, third-ne, three-same}
 use borrow.Author.Needs.{needs}
 use native.Mathlib.Omega.{arith}
 use Rattle.reader.proofs.key.Statement.{statement}

@@ -1,7 +1,7 @@
 -- `reader::line` meets its contract: the key, then the numbers and the line feed. Assumes nothing.
 use mathlib.Core.Path.{refl, sym, _∙_, ap}
 use Rattle.units.proofs.Steps.{never}
-use Rattle.reader.specs.Line.{Taken, ended}
+use Rattle.text.specs.Line.{Taken, ended}
 use borrow.Author.Needs.{needs}
 use Rattle.reader.proofs.line.Statement.{statement}
 use Rattle.reader.proofs.line.Tie as tie

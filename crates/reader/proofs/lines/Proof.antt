@@ -3,8 +3,8 @@ use Prim.Native.Nat.{_+_, _≤_, _-_}
 use mathlib.Core.Path.{_≡_, refl, sym, _∙_}
 use lib.ListN.{length}
 use Rattle.rows.specs.Table.{rowCount}
-use Rattle.reader.specs.Read.{step, linesFrom}
-use Rattle.reader.proofs.Cases.{lines-end, lines-absent, lines-bad, lines-step}
+use Rattle.text.specs.Read.{step, linesFrom}
+use Rattle.text.proofs.Cases.{lines-end, lines-absent, lines-bad, lines-step}
 use borrow.Author.Needs.{needs}
 use native.Mathlib.Omega.{arith}
 use Rattle.reader.proofs.lines.Statement.{statement}

@@ -7,9 +7,9 @@ use Rattle.sheet.specs.declared.Answer.the-variants.{Refused}
 use Rattle.sheet.specs.declared.Refusal.the-variants.{Malformed}
 use Rattle.rows.proofs.Keys.{facts-key, facts-short}
 use Rattle.figures.specs.Figures.{afterAt}
-use Rattle.reader.specs.Read.{reply}
-use Rattle.reader.proofs.Rows.{facts-long}
-use Rattle.reader.proofs.Cases.{not-begun}
+use Rattle.text.specs.Read.{reply}
+use Rattle.text.proofs.Rows.{facts-long}
+use Rattle.text.proofs.Cases.{not-begun}
 use native.Mathlib.Omega.{arith}
 use borrow.Author.Needs.{needs}
 use Rattle.reader.proofs.read.Statement.{statement}

@@ -1,7 +1,7 @@
 -- `reader::reply` meets its contract: by the answer. Assumes nothing.
 use Rattle.units.proofs.Steps.{steps, pick-not}
 use mathlib.Core.Path.{refl, sym, _∙_}
-use Rattle.reader.specs.Read.{reply}
+use Rattle.text.specs.Read.{reply}
 use borrow.Author.Needs.{needs}
 use Rattle.reader.proofs.reply.Statement.{statement}
 use Rattle.reader.proofs.reply.Tie as tie

@@ -5,8 +5,8 @@ use mathlib.Core.List.{List}
 use Prim.Native.Nat.{ℕ}
 use Rattle.rows.specs.Table.{plain}
 use Rattle.figures.specs.Figures.{afterAt}
-use Rattle.reader.specs.Line.{fields}
-use Rattle.reader.proofs.Cases.{fields-end, fields-no-mark, fields-no-number, fields-step, comma, plain-field}
+use Rattle.text.specs.Line.{fields}
+use Rattle.text.proofs.Cases.{fields-end, fields-no-mark, fields-no-number, fields-step, comma, plain-field}
 use borrow.Author.Needs.{needs}
 use native.Mathlib.Omega.{arith}
 use Rattle.reader.proofs.rest.Statement.{statement}

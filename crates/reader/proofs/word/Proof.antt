@@ -2,7 +2,7 @@
 use borrow.Author.Needs.{needs}
 use Rattle.rows.specs.Table.{bytes}
 use Rattle.rows.specs.Marks.{words}
-use Rattle.reader.specs.Line.{wordAt}
+use Rattle.text.specs.Line.{wordAt}
 use Rattle.reader.proofs.word.Statement.{statement}
 use Rattle.reader.proofs.word.Tie as tie
 

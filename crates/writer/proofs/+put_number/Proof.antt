@@ -2,9 +2,9 @@
 use borrow.Author.Needs.{needs}
 use native.Mathlib.Omega.{arith}
 use Prim.Native.Nat.{ℕ, _/_, _<_}
-use Rattle.writer.proofs.Decimals.{digits-one, digits-tens}
-use Rattle.writer.proofs.Puts.{put-then, put-same, put-length}
-use Rattle.writer.proofs.Lengths.{short-digits}
+use Rattle.text.proofs.Decimals.{digits-one, digits-tens}
+use Rattle.text.proofs.Puts.{put-then, put-same, put-length}
+use Rattle.text.proofs.Lengths.{short-digits}
 use borrow.Fn.Kinds.{In}
 use borrow.Fn.PlainCycle.{Measures, is, falls, and}
 use Rattle.writer.proofs.put_number.Reads as put-number

@@ -8,9 +8,9 @@ use borrow.Author.Tests.{le-leb}
 use Rattle.units.specs.Numbers.{pick}
 use Rattle.rows.specs.Longest.{longestFrom, longestFields, longestField}
 use Rattle.rows.specs.Table.{rowCount, keyOf, formOf, widthOf, rangesOf, kindOf}
-use Rattle.writer.specs.Text.{textFrom}
-use Rattle.writer.proofs.Puts.{put-none}
-use Rattle.writer.proofs.Room.{short-by-counts}
+use Rattle.text.specs.Text.{textFrom}
+use Rattle.text.proofs.Puts.{put-none}
+use Rattle.text.proofs.Room.{short-by-counts}
 use native.Mathlib.Omega.{arith}
 use borrow.Author.Needs.{needs}
 use Rattle.writer.proofs.has_room.Statement.{statement}

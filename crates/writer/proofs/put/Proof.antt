@@ -1,6 +1,6 @@
 -- `writer::put` meets its contract: stored, or only counted. Assumes nothing.
 use borrow.Author.Needs.{needs}
-use Rattle.writer.proofs.Puts.{put-one, put-past}
+use Rattle.text.proofs.Puts.{put-one, put-past}
 use Rattle.writer.proofs.put.Statement.{statement}
 use Rattle.writer.proofs.put.Tie as tie
 

@@ -2,8 +2,8 @@
 use borrow.Author.Needs.{needs}
 use borrow.Author.Tests.{ne-eqb}
 use Rattle.units.specs.Numbers.{pick}
-use Rattle.writer.specs.Text.{fieldText}
-use Rattle.writer.proofs.Puts.{put-length}
+use Rattle.text.specs.Text.{fieldText}
+use Rattle.text.proofs.Puts.{put-length}
 use Rattle.writer.proofs.put_field.Statement.{statement}
 use Rattle.writer.proofs.put_field.Tie as tie
 

@@ -4,10 +4,10 @@ use Prim.Native.Nat.{_+_, _-_, _≤_}
 use mathlib.Core.List.{_++_}
 use lib.ListN.{getD}
 use Rattle.rows.specs.Marks.{markOf}
-use Rattle.writer.specs.Text.{fieldText, fieldsText}
-use Rattle.writer.proofs.Puts.{Doing, start, next, end, where-now, doing-length, put-then}
-use Rattle.writer.proofs.Lengths.{mark-long, short-fields, eight-each}
-use Rattle.writer.proofs.Pieces.{fields-over, fields-next}
+use Rattle.text.specs.Text.{fieldText, fieldsText}
+use Rattle.text.proofs.Puts.{Doing, start, next, end, where-now, doing-length, put-then}
+use Rattle.text.proofs.Lengths.{mark-long, short-fields, eight-each}
+use Rattle.text.proofs.Pieces.{fields-over, fields-next}
 use borrow.Author.Needs.{needs}
 use native.Mathlib.Omega.{arith}
 use Rattle.writer.proofs.put_fields.Statement.{statement}

@@ -3,7 +3,7 @@ use mathlib.Core.Path.{ap}
 use Prim.Native.Nat.{ℕ}
 use native.Mathlib.Nat.{sub-zero}
 use lib.ListN.{take}
-use Rattle.writer.proofs.Puts.{put-length, put-same}
+use Rattle.text.proofs.Puts.{put-length, put-same}
 use borrow.Author.Needs.{needs}
 use Rattle.writer.proofs.put_key.Statement.{statement}
 use Rattle.writer.proofs.put_key.Tie as tie

@@ -1,9 +1,9 @@
 -- `writer::put_line` meets its contract: the key, the numbers, the line feed. Assumes nothing.
 use Rattle.rows.proofs.Tables.{place-room}
 use Rattle.rows.proofs.Keys.{key-short, facts-key, facts-short, facts-form}
-use Rattle.writer.specs.Text.{rowText}
-use Rattle.writer.proofs.Puts.{put-length, put-same, put-then}
-use Rattle.writer.proofs.Lengths.{short-fields, eight-each}
+use Rattle.text.specs.Text.{rowText}
+use Rattle.text.proofs.Puts.{put-length, put-same, put-then}
+use Rattle.text.proofs.Lengths.{short-fields, eight-each}
 use native.Mathlib.Omega.{arith}
 use borrow.Author.Needs.{needs}
 use Rattle.writer.proofs.put_line.Statement.{statement}

@@ -1,11 +1,11 @@
 -- `writer::put_lines` meets its contract: at each turn a row more is stored, if the sheet has it. Assumes nothing.
 use mathlib.Core.Path.{sym, _∙_}
 use Prim.Native.Nat.{_-_, _≤_}
-use Rattle.writer.specs.Text.{rowText, textFrom}
-use Rattle.writer.proofs.Puts.{Doing, start, next, end, where-now, doing-length}
+use Rattle.text.specs.Text.{rowText, textFrom}
+use Rattle.text.proofs.Puts.{Doing, start, next, end, where-now, doing-length}
 use Rattle.rows.specs.Table.{rowCount}
-use Rattle.writer.proofs.Lengths.{short-text, longest-small}
-use Rattle.writer.proofs.Pieces.{text-over, text-absent, text-next}
+use Rattle.text.proofs.Lengths.{short-text, longest-small}
+use Rattle.text.proofs.Pieces.{text-over, text-absent, text-next}
 use borrow.Author.Needs.{needs}
 use native.Mathlib.Omega.{arith}
 use Rattle.writer.proofs.put_lines.Statement.{statement}

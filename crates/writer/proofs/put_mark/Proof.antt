@@ -4,7 +4,7 @@ use borrow.Author.Tests.{le-ltb, lt-ltb}
 use Rattle.units.specs.Numbers.{pick}
 use Rattle.rows.specs.Table.{bytes}
 use Rattle.rows.specs.Marks.{markOf}
-use Rattle.writer.proofs.Puts.{put-length}
+use Rattle.text.proofs.Puts.{put-length}
 use Rattle.writer.proofs.put_mark.Statement.{statement}
 use Rattle.writer.proofs.put_mark.Tie as tie
 

@@ -4,8 +4,8 @@ use native.Mathlib.Omega.{arith}
 use borrow.Author.Tests.{le-ltb, lt-ltb}
 use Rattle.units.specs.Numbers.{pick}
 use Rattle.rows.specs.Table.{bytes}
-use Rattle.writer.specs.Text.{signedText}
-use Rattle.writer.proofs.Puts.{put-length, put-then}
+use Rattle.text.specs.Text.{signedText}
+use Rattle.text.proofs.Puts.{put-length, put-then}
 use Rattle.writer.proofs.put_signed.Statement.{statement}
 use Rattle.writer.proofs.put_signed.Tie as tie
 

@@ -7,7 +7,7 @@ use Prim.Native.Nat.{_≤_}
 use lib.ListN.{List·getD-eq-default}
 use Rattle.rows.specs.Table.{bytes}
 use Rattle.rows.specs.Marks.{words}
-use Rattle.writer.proofs.Puts.{put-length, put-same, put-nil}
+use Rattle.text.proofs.Puts.{put-length, put-same, put-nil}
 use Rattle.writer.proofs.put_vehicle.Statement.{statement}
 use Rattle.writer.proofs.put_vehicle.Tie as tie
 

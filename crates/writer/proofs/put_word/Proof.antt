@@ -4,7 +4,7 @@ use native.Mathlib.Omega.{arith}
 use Prim.Native.Nat.{_≤_, _-_}
 use mathlib.Core.List.{[], _∷_}
 use lib.ListN.{length, drop, getD, drop-of-length-le}
-use Rattle.writer.proofs.Puts.{Doing, start, next, end, where-now, doing-length}
+use Rattle.text.proofs.Puts.{Doing, start, next, end, where-now, doing-length}
 use Rattle.units.proofs.Walk.{rest-at}
 use Rattle.writer.proofs.put_word.Statement.{statement}
 use Rattle.writer.proofs.put_word.Tie as tie

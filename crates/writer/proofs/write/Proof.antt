@@ -1,8 +1,8 @@
 -- `writer::write` meets its contract: refused by the values, for want of room, or written. Assumes nothing.
 use mathlib.Core.Path.{sym, ap, _∙_}
 use lib.ListN.{length}
-use Rattle.writer.proofs.Puts.{put-length}
-use Rattle.writer.proofs.Pieces.{write-refused, write-long, write-done}
+use Rattle.text.proofs.Puts.{put-length}
+use Rattle.text.proofs.Pieces.{write-refused, write-long, write-done}
 use borrow.Author.Needs.{needs}
 use Rattle.writer.proofs.write.Statement.{statement}
 use Rattle.writer.proofs.write.Tie as tie

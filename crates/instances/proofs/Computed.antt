@@ -1,0 +1,190 @@
+-- The lines of the instances' sheets, computed once, and the stages of their runs from what the sequence goes by, tick by tick. Assumes nothing.
+use Prim.Native.Nat.{ℕ}
+use mathlib.Core.Bool.{true, false}
+use mathlib.Core.List.{List, [], _∷_, _++_}
+use mathlib.Core.Path.{_≡_, refl}
+use Rattle.units.specs.Numbers.{up, pick}
+use Rattle.sheet.specs.declared.Answer.the-variants.{Fine, Refused}
+use Rattle.sheet.specs.declared.Refusal.the-variants.{ClearanceTooShort, TrackLongerThanTransfer}
+use Rattle.sheet.specs.declared.Sheet.{Sheet}
+use Rattle.sheet.specs.Refusals.{orElse, unless}
+use Rattle.transfer.specs.Transfer.{pedestrianTime, timeOf, worseOf, worstFrom}
+use Rattle.rows.specs.Table.{kindOf, rangesOf, widthOf, placeOf, inRange, inRanges, present}
+use Rattle.numbers.specs.Flat.{gradeNumber, numbersFrom, flatOf}
+use Rattle.faults.specs.Lines.{quietInModeZero, clearsYellowAndRed, phaseFault, startsAtZero, pointRises, beforePhase, pointFits, ruleFault, rowFault, hereFault, lineAfter, faultFrom}
+use Rattle.faults.specs.Whole.{wholeFault, acceptOf}
+use Rattle.table.specs.Table.{table, entryOf}
+use Rattle.factor.specs.Factor.{climb, placeOn, rowOf, columnOf, mixOf, lineOf, tableOf, factorOf}
+use Rattle.curve.specs.Curve.{betweenOf, levelFrom, levelOf, gradedOf, accelerationOf}
+use Rattle.lines.specs.Cases.{sheetWith, paperSheet}
+use Rattle.lines.specs.Lines.{l03, l16, l17, l21, l22, l23, l24, l25, l29, l32, l34, l35, l36, l38, l40, l41, l43, l44, l45, l46, l48, l49, l50, l51, l52, l53, l54, l55, l59, l60, l61, linesOf}
+use Rattle.lines.specs.Worksheet.{worksheetOf}
+use Rattle.phase.specs.Times.{oneMore, addLight, addWalker}
+use Rattle.phase.specs.Ending.{afterWalk, walkOver, clearanceOver, greenOver, afterGreen, afterYellow, phaseOver, overOrStays}
+use Rattle.phase.specs.declared.Light.the-variants.{Red}
+use Rattle.phase.specs.declared.Walker.the-variants.{Clearance}
+use Rattle.stage.specs.declared.Command.the-variants.{None}
+use Rattle.stage.specs.declared.Lengths.{Lengths}
+use Rattle.stage.specs.declared.Place.the-variants.{Normal, Train}
+use Rattle.stage.specs.declared.Stage.{Stage}
+use Rattle.stage.specs.declared.Stage.the-variants.{TrackGreen, TrackYellow, TrackRed, Ending, ClearanceGreen}
+use Rattle.stage.specs.declared.Then.the-variants.{ToClearance, ToDwell}
+use Rattle.stage.specs.Commands.{allowedIn, allowedAt, allowed, next, ended, obeyed}
+use Rattle.stage.specs.Listed.{findIn, isAt, orZero}
+use Rattle.stage.specs.Shown.{inNormal, normalBefore, staysNormal}
+use Rattle.stage.specs.Times.{addOne}
+use Rattle.flow.specs.declared.Now.{Now}
+use Rattle.flow.specs.Calls.{counting, countTo, countAfter, answered, dropped, becomes, begins, called, overdue}
+use Rattle.flow.specs.Settling.{enter, settleRed, settleYellow, settleGreen, settledAs, settle}
+use Rattle.flow.specs.Promises.{now}
+use Rattle.flow.specs.Tick.{heard, ticked}
+use Rattle.unit.specs.Runs.{Event, tick}
+use Rattle.measured.specs.Measured.{lengthsOf, accepted}
+use Rattle.promises.specs.Demand.{upTo}
+use Rattle.instances.specs.Instances.{calls, towardsFour, varied, tight, advanced, stepped, ownLengths, clearsBy, phasesOf, asYellowStarts}
+
+-- what the sequence goes by on the paper's sheet, with line 51 left open
+abbrev pub going : ℕ → Lengths
+going l51 = record { l03 = 2; l51 = l51; «track_yellow» = 40; «track_red» = 20 }
+
+abbrev pub paper : Lengths
+paper = going 490
+
+abbrev pub tightly : Lengths
+tightly = going 480
+
+-- of the two sheets of the gate and the trailer
+abbrev pub longer : Lengths
+longer = going 520
+
+-- a sheet that is accepted and goes by these
+pub record Goes (s : Sheet) (t : Lengths) : Type 0 where
+  pub fine : accepted s ≡ true
+  pub lengths : lengthsOf s ≡ t
+
+pub record Worked : Type 0 where
+  pub paper-goes : Goes paperSheet paper
+  pub paper-l17 : worksheetOf paperSheet .lines .l17 .0 ≡ 227
+  pub tight-goes : Goes tight tightly
+  pub tight-l17 : worksheetOf tight .lines .l17 .0 ≡ 227
+  pub tight-l25 : worksheetOf tight .lines .l25 .0 ≡ 206
+  pub tight-l28 : worksheetOf tight .lines .l28 .0 ≡ 40
+  pub tight-l34 : worksheetOf tight .lines .l34 .0 ≡ 473
+  pub tight-l35 : worksheetOf tight .lines .l35 .0 ≡ 0
+  pub tight-l40 : worksheetOf tight .lines .l40 .0 ≡ 482
+  pub spared-goes : Goes (advanced 297) longer
+  pub spared-l17 : worksheetOf (advanced 297) .lines .l17 .0 ≡ 227
+  pub spared-l36 : worksheetOf (advanced 297) .lines .l36 .0 ≡ 297
+  pub spared-l53 : worksheetOf (advanced 297) .lines .l53 .0 ≡ 71
+  pub spared-l54 : worksheetOf (advanced 297) .lines .l54 .0 ≡ 77
+  pub spared-l60 : worksheetOf (advanced 297) .lines .l60 .0 ≡ 78
+  pub spared-l61 : worksheetOf (advanced 297) .lines .l61 .0 ≡ 297
+  pub hit-goes : Goes (advanced 296) longer
+  pub hit-l17 : worksheetOf (advanced 296) .lines .l17 .0 ≡ 227
+  pub hit-l36 : worksheetOf (advanced 296) .lines .l36 .0 ≡ 296
+  pub hit-l53 : worksheetOf (advanced 296) .lines .l53 .0 ≡ 71
+  pub hit-l54 : worksheetOf (advanced 296) .lines .l54 .0 ≡ 77
+  pub hit-l60 : worksheetOf (advanced 296) .lines .l60 .0 ≡ 78
+  pub hit-l61 : worksheetOf (advanced 296) .lines .l61 .0 ≡ 297
+  pub six-beside : acceptOf (clearsBy 55) ≡ Fine
+  pub six-refused : acceptOf (clearsBy 54) ≡ Refused ClearanceTooShort 8
+  pub six-l17 : l17 (clearsBy 54) .0 ≡ 126
+  pub six-lengths : ownLengths (clearsBy 54) ≡ paper
+  pub ten-beside : acceptOf (phasesOf 10) ≡ Fine
+  pub ten-refused : acceptOf (phasesOf 9) ≡ Refused TrackLongerThanTransfer 0
+  pub ten-l17 : l17 (phasesOf 9) .0 ≡ 61
+  pub ten-lengths : ownLengths (phasesOf 9) ≡ paper
+
+pub worked : Worked
+unfolding up pick orElse unless pedestrianTime timeOf worseOf worstFrom kindOf rangesOf widthOf placeOf inRange inRanges present gradeNumber numbersFrom flatOf quietInModeZero clearsYellowAndRed phaseFault startsAtZero pointRises beforePhase pointFits ruleFault rowFault hereFault lineAfter faultFrom wholeFault acceptOf table entryOf climb placeOn rowOf columnOf mixOf lineOf tableOf factorOf betweenOf levelFrom levelOf gradedOf accelerationOf l03 l16 l17 l21 l22 l23 l24 l25 l29 l32 l34 l35 l36 l38 l40 l41 l43 l44 l45 l46 l48 l49 l50 l51 l52 l53 l54 l55 l59 l60 l61 linesOf worksheetOf sheetWith varied
+worked =
+    record {
+      paper-goes = record { fine = refl; lengths = refl };
+      paper-l17 = refl;
+      tight-goes = record { fine = refl; lengths = refl };
+      tight-l17 = refl;
+      tight-l25 = refl;
+      tight-l28 = refl;
+      tight-l34 = refl;
+      tight-l35 = refl;
+      tight-l40 = refl;
+      spared-goes = record { fine = refl; lengths = refl };
+      spared-l17 = refl;
+      spared-l36 = refl;
+      spared-l53 = refl;
+      spared-l54 = refl;
+      spared-l60 = refl;
+      spared-l61 = refl;
+      hit-goes = record { fine = refl; lengths = refl };
+      hit-l17 = refl;
+      hit-l36 = refl;
+      hit-l53 = refl;
+      hit-l54 = refl;
+      hit-l60 = refl;
+      hit-l61 = refl;
+      six-beside = refl;
+      six-refused = refl;
+      six-l17 = refl;
+      six-lengths = refl;
+      ten-beside = refl;
+      ten-refused = refl;
+      ten-l17 = refl;
+      ten-lengths = refl;
+    }
+
+-- the stage after the events, past and present
+abbrev pub before : Lengths → Sheet → List Event → Now
+before t s past = stepped t s (now TrackGreen 0) past
+
+abbrev pub shown : Lengths → Sheet → List Event → List Event → Stage
+shown t s past es = stepped t s (before t s past) es .stage
+
+-- on a sheet with the paper's phase 4: met as it begins, whatever line 51 is
+pub record Four (s : Sheet) (t : Lengths) : Type 0 where
+  pub at-226 : shown t s towardsFour (upTo 226 (calls 227)) ≡ Ending 4 ToClearance (Red 19) (Clearance 100)
+  pub at-227 : shown t s towardsFour (upTo 227 (calls 227)) ≡ ClearanceGreen 0
+  pub normal : inNormal (before t s towardsFour .stage) ≡ true
+
+pub record Walked : Type 0 where
+  pub paper-1 : shown paper paperSheet [] (upTo 1 (calls 492)) ≡ TrackGreen
+  pub paper-2 : shown paper paperSheet [] (upTo 2 (calls 492)) ≡ ClearanceGreen 0
+  pub paper-491 : shown paper paperSheet [] (upTo 491 (calls 492)) ≡ ClearanceGreen 489
+  pub paper-492 : shown paper paperSheet [] (upTo 492 (calls 492)) ≡ TrackYellow Train ToDwell 0
+  pub paper-four : Four paperSheet paper
+  pub counted-1 : shown paper paperSheet (calls 1) (upTo 1 (calls 1)) ≡ ClearanceGreen 0
+  pub transfer-1 : shown paper paperSheet (towardsFour ++ calls 226) (upTo 1 (calls 1)) ≡ ClearanceGreen 0
+  pub off-again : before paper paperSheet (tick None true ∷ (tick None false ∷ [])) ≡ now TrackGreen 0
+  pub off-still : ticked paper paperSheet (now TrackGreen 0) None false .now ≡ now TrackGreen 0
+  pub tight-1 : shown tightly tight [] (upTo 1 (calls 482)) ≡ TrackGreen
+  pub tight-2 : shown tightly tight [] (upTo 2 (calls 482)) ≡ ClearanceGreen 0
+  pub tight-four : Four tight tightly
+  pub spared-four : Four (advanced 297) longer
+  pub hit-four : Four (advanced 296) longer
+  pub six-126 : shown paper (clearsBy 54) towardsFour (calls 126) ≡ Ending 4 ToClearance (Red 19) (Clearance 54)
+  pub six-127 : shown paper (clearsBy 54) towardsFour (calls 127) ≡ ClearanceGreen 0
+  pub ten-61 : shown paper (phasesOf 9) [] (asYellowStarts 59) ≡ TrackRed Normal ToClearance 19
+  pub ten-62 : shown paper (phasesOf 9) [] (asYellowStarts 60) ≡ ClearanceGreen 0
+
+pub walked : Walked
+unfolding stepped pick oneMore addLight addWalker afterWalk walkOver clearanceOver greenOver afterGreen afterYellow phaseOver overOrStays findIn isAt orZero addOne allowedIn allowedAt allowed next ended obeyed inNormal normalBefore staysNormal counting countTo countAfter answered dropped becomes begins called overdue enter settleRed settleYellow settleGreen settledAs settle heard sheetWith varied
+walked =
+    record {
+      paper-1 = refl;
+      paper-2 = refl;
+      paper-491 = refl;
+      paper-492 = refl;
+      paper-four = record { at-226 = refl; at-227 = refl; normal = refl };
+      counted-1 = refl;
+      transfer-1 = refl;
+      off-again = refl;
+      off-still = refl;
+      tight-1 = refl;
+      tight-2 = refl;
+      tight-four = record { at-226 = refl; at-227 = refl; normal = refl };
+      spared-four = record { at-226 = refl; at-227 = refl; normal = refl };
+      hit-four = record { at-226 = refl; at-227 = refl; normal = refl };
+      six-126 = refl;
+      six-127 = refl;
+      ten-61 = refl;
+      ten-62 = refl;
+    }

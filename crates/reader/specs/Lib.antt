@@ -1,3 +1,0 @@
-pub mod Line
-pub mod Read
-pub mod Promises

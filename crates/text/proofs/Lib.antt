@@ -1,0 +1,9 @@
+pub mod Rows
+pub mod Letters
+pub mod Cases
+pub mod Puts
+pub mod Decimals
+pub mod Lengths
+pub mod Room
+pub mod Pieces
+pub mod Promised

@@ -1,0 +1,6 @@
+pub mod Line
+pub mod Read
+pub mod Digits
+pub mod Text
+pub mod Write
+pub mod Promises
