@@ -3,6 +3,8 @@ use mathlib.Core.Path.{sym, _∙_, refl}
 use Rattle.units.specs.Fixed.{Fixes, AsksNothing}
 use Rattle.entries.proofs.phase_at.Kinds as phase-at-kinds
 use Rattle.entries.proofs.phase_at.Reads as phase-at-reads
+use Rattle.entries.proofs.list_at.Kinds as list-at-kinds
+use Rattle.entries.proofs.list_at.Reads as list-at-reads
 use Rattle.entries.proofs.point_at.Kinds as point-at-kinds
 use Rattle.entries.proofs.point_at.Reads as point-at-reads
 
@@ -17,3 +19,9 @@ point-at-fixed κs a z z′ w w′ p q = (p ∙ sym q, refl)
 
 pub point-at-open : AsksNothing 1 point-at-kinds.ps point-at-reads.Asked
 point-at-open κs a = tt
+
+pub list-at-fixed : Fixes 1 list-at-kinds.ps list-at-kinds.r list-at-reads.Learnt
+list-at-fixed κs a z z′ w w′ p q = (p ∙ sym q, refl)
+
+pub list-at-open : AsksNothing 1 list-at-kinds.ps list-at-reads.Asked
+list-at-open κs a = tt

@@ -1,11 +1,12 @@
-// A phase and a point of a sheet's numbers.
+// A phase, a point and a list of a sheet's numbers.
 ghost use mathlib.Core.Path.{_≡_};
 ghost use Prim.Native.Nat.{_≤_};
 ghost use lib.ListN.{getD};
-ghost use Rattle.rows.specs.Table.{numberCount};
-ghost use Rattle.numbers.specs.Flat.{phasePlace, pointPlace, phaseAt, pointAt};
+ghost use Rattle.rows.specs.Table.{numberCount, placeOf};
+ghost use Rattle.numbers.specs.Flat.{phasePlace, pointPlace, phaseAt, pointAt, listNumbers};
 use rows::NUMBERS;
 use rows::table;
+use rows::table::MOST_PHASES;
 use sheet::Phase;
 use sheet::Point;
 
@@ -71,4 +72,18 @@ pub fn point_at(numbers: &[u32; NUMBERS], i: usize) -> Point
         feet: number(numbers, at),
         tenths: number(numbers, at + 1),
     }
+}
+
+// The numbers of a row that is a list: those after its count.
+pub fn list_at(numbers: &[u32; NUMBERS], row: usize) -> [u32; MOST_PHASES]
+    ensures { λ r. ⌜ r ≡ listNumbers (now (numbers .entry)) (placeOf row) ⌝ }
+{
+    let at = places::place(row) + 1;
+    let mut list = [0u32; MOST_PHASES];
+    let mut i: usize = 0;
+    while i < MOST_PHASES {
+        list[i] = number(numbers, at + i);
+        i += 1;
+    }
+    list
 }

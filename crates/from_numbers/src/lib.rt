@@ -71,9 +71,10 @@ fn sheet_with(
     vehicle: Vehicle,
     grade: i16,
     phases: [Phase; MOST_PHASES],
+    dwell: [u32; MOST_PHASES],
     points: [Point; MOST_POINTS],
 ) -> Sheet
-    ensures { λ r. ⌜ r ≡ sheetWith (now (numbers .entry)) vehicle grade phases points ⌝ }
+    ensures { λ r. ⌜ r ≡ sheetWith (now (numbers .entry)) vehicle grade phases dwell points ⌝ }
 {
     Sheet {
         issue: numbers[table::ISSUE],
@@ -85,6 +86,8 @@ fn sheet_with(
         phases: phases,
         track_yellow: numbers[table::TRACK],
         track_red: numbers[table::TRACK_RED],
+        dwell_count: numbers[table::DWELL],
+        dwell: dwell,
         l18: numbers[table::L18],
         l19: numbers[table::L19],
         l20: numbers[table::L20],
@@ -110,6 +113,7 @@ pub fn sheet_of(numbers: &[u32; NUMBERS]) -> Sheet
     let vehicle = vehicle_of(numbers[table::VEHICLE]);
     let grade = grade_of(numbers[table::GRADE]);
     let phases = phases_of(numbers);
+    let dwell = entries::list_at(numbers, table::DWELL_ROW);
     let points = points_of(numbers);
-    sheet_with(numbers, vehicle, grade, phases, points)
+    sheet_with(numbers, vehicle, grade, phases, dwell, points)
 }

@@ -20,6 +20,7 @@ pub fn number(refusal: Refusal) -> u32
         Refusal::BeyondLastPoint => 9,
         Refusal::TrackLongerThanTransfer => 10,
         Refusal::NoRoom => 11,
+        Refusal::DwellPhaseNotListed => 12,
         Refusal::UnitUnfit => 20,
         Refusal::LoadNotNow => 21,
         Refusal::IssueNotNewer => 22,

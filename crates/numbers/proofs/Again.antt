@@ -69,7 +69,7 @@ numbers-again v l hv hg =
     with-parts v (vehicleNumber (vehicleOf (getD v (placeFor "vehicle") 0))) (gradeNumber (gradeOf (getD v (placeFor "grade") 0))) (vehicle-number-again (getD v (placeFor "vehicle") 0) hv) (grade-number-again (getD v (placeFor "grade") 0) hg)
     ∙ entries-all v numberCount 0 l
 
-pub sheet-again : (s : Sheet) → length (s .phases) ≡ mostPhases → length (s .points) ≡ mostPoints → Graded (gradeNumber (s .grade)) → sheetOf (flatOf s) ≡ s
+pub sheet-again : (s : Sheet) → length (s .phases) ≡ mostPhases → length (s .dwell) ≡ mostPhases → length (s .points) ≡ mostPoints → Graded (gradeNumber (s .grade)) → sheetOf (flatOf s) ≡ s
 unfolding flatOf numbersFrom entriesFrom
-sheet-again s lp lq hg =
-    λ i. sheetWith (flatOf s) (vehicle-again (s .vehicle) i) (grade-again (s .grade) hg i) (entries-all (s .phases) mostPhases zeroPhase lp i) (entries-all (s .points) mostPoints zeroPoint lq i)
+sheet-again s lp ld lq hg =
+    λ i. sheetWith (flatOf s) (vehicle-again (s .vehicle) i) (grade-again (s .grade) hg i) (entries-all (s .phases) mostPhases zeroPhase lp i) (entries-all (s .dwell) mostPhases 0 ld i) (entries-all (s .points) mostPoints zeroPoint lq i)

@@ -5,8 +5,8 @@ use Prim.Native.Nat.{ℕ, zero, suc, _+_, _-_, _<_, _≤_}
 use native.Mathlib.Nat.{zero-add}
 use native.Mathlib.Numerals.{add-one}
 use native.Mathlib.Omega.{arith}
-use lib.ListN.{length, getD, set, take}
-use lib.Seq.{take-suc-set, take-all, ext-getD}
+use lib.ListN.{length, getD, set, take, drop, length-drop}
+use lib.Seq.{take-suc-set, take-all, ext-getD, length-take-le, getD-take, getD-drop}
 use Rattle.numbers.specs.Flat.{entriesFrom}
 
 module _ {A : Type 0} (f : ℕ → A) where
@@ -43,3 +43,14 @@ pub entries-all : {A : Type 0} (xs : List A) (n : ℕ) (d : A) → length xs ≡
 entries-all xs n d l =
     ext-getD d (entriesFrom (λ (i : ℕ). getD xs i d) n 0) xs (entries-long (λ (i : ℕ). getD xs i d) n 0 ∙ sym l)
     (λ j h. entries-at (λ (i : ℕ). getD xs i d) n 0 j d (omega (arith, entries-long (λ (i : ℕ). getD xs i d) n 0)) ∙ ap (λ (k : ℕ). getD xs k d) (zero-add j))
+
+-- n entries that stand one after the other
+pub part-entries : (v : List ℕ) (k n : ℕ) → k + n ≤ length v → take n (drop k v) ≡ entriesFrom (λ (i : ℕ). getD v (k + i) 0) n 0
+part-entries v k n h =
+    let f : ℕ → ℕ = λ (i : ℕ). getD v (k + i) 0 in
+    let l : length (take n (drop k v)) ≡ n = length-take-le n (drop k v) (omega (arith, length-drop k v)) in
+    ext-getD 0 (take n (drop k v)) (entriesFrom f n 0) (l ∙ sym (entries-long f n 0))
+    (λ j b.
+    let c : j < n = omega (arith, l) in
+    let z : 0 + j ≡ j = omega arith in
+    getD-take n (drop k v) j 0 c ∙ getD-drop k v j 0 ∙ sym (rw z at (entries-at f n 0 j 0 c)))

@@ -7,7 +7,7 @@ use native.Mathlib.Numerals.{add-one}
 use native.Mathlib.Omega.{arith}
 use lib.ListN.{length, getD, set, List·getD-eq-default}
 use lib.Seq.{sets}
-use Rattle.numbers.specs.Flat.{numbersFrom}
+use Rattle.numbers.specs.Flat.{itself, numbersFrom}
 
 pub sets-then : (v a b : List ℕ) (at : ℕ) → sets v at (a ++ b) ≡ sets (sets v at a) (at + length a) b
 sets-then v [] b at = let e : at + 0 ≡ at = omega arith in rw e refl
@@ -24,6 +24,15 @@ next-entry f d xs v at w n i h e =
   where
     mul-suc-of : (w i : ℕ) → w * (i + 1) ≡ w * i + w
     mul-suc-of w i = mul-add w i 1 ∙ ap (λ (k : ℕ). w * i + k) (mul-one w)
+
+-- the same of numbers that are their own
+pub next-number : (xs v : List ℕ) (at n i : ℕ) → i < n
+    → sets v (at + i) (numbersFrom itself 0 (n - i) i xs) ≡ sets (set v (at + i) (getD xs i 0)) (at + (i + 1)) (numbersFrom itself 0 (n - (i + 1)) (i + 1) xs)
+unfolding numbersFrom
+next-number xs v at n i h =
+    let m : n - i ≡ suc (n - (i + 1)) = omega arith in
+    let p : at + (i + 1) ≡ suc (at + i) = omega arith in
+    rw (m, p) refl
 
 pub past : (v : List ℕ) (n k : ℕ) → length v ≡ n → n ≤ k → 0 ≡ getD v k 0
 past v n k e h = let l : length v ≤ k = omega arith in sym (List·getD-eq-default v 0 {n = k} l)

@@ -31,6 +31,10 @@ phaseNumbers p =
 abbrev pub pointNumbers : Point → List ℕ
 pointNumbers p = p .feet ∷ p .tenths ∷ []
 
+-- a number for dwell is its own
+abbrev pub itself : ℕ → List ℕ
+itself n = n ∷ []
+
 -- the numbers of n entries of an array, from entry i on
 unfoldable pub numbersFrom : {A : Type 0} → (A → List ℕ) → A → ℕ → ℕ → List A → List ℕ
 numbersFrom f d zero i xs = []
@@ -47,7 +51,9 @@ flatOf s =
     ∷ numbersFrom phaseNumbers zeroPhase mostPhases 0 (s .phases)
     ++ s .«track_yellow»
     ∷ s .«track_red»
-    ∷ s .l18
+    ∷ s .«dwell_count»
+    ∷ numbersFrom itself 0 mostPhases 0 (s .dwell)
+    ++ s .l18
     ∷ s .l19
     ∷ s .l20
     ∷ s .l28
@@ -63,9 +69,12 @@ flatOf s =
     ∷ s .«point_count»
     ∷ numbersFrom pointNumbers zeroPoint mostPoints 0 (s .points)
 
--- where the numbers of phase i and of point i start: each phase has eight, each point two
+-- where the numbers of phase i and of point i start: each phase has eight, each point two; those for dwell stand after their count
 abbrev pub phasePlace : ℕ → ℕ
 phasePlace i = placeFor "phase" + 8 * i
+
+abbrev pub dwellPlace : ℕ → ℕ
+dwellPlace i = placeFor "dwell" + 1 + i
 
 abbrev pub pointPlace : ℕ → ℕ
 pointPlace i = placeFor "point" + 2 * i
@@ -100,9 +109,13 @@ unfoldable pub entriesFrom : {A : Type 0} → (ℕ → A) → ℕ → ℕ → Li
 entriesFrom f zero i = []
 entriesFrom f (suc n) i = f i ∷ entriesFrom f n (i + 1)
 
+-- the numbers of the list that stands at a place: those after its count
+abbrev pub listNumbers : List ℕ → ℕ → List ℕ
+listNumbers v at = entriesFrom (λ (i : ℕ). getD v (at + 1 + i) 0) mostPhases 0
+
 -- with the parts that are more than a number
-abbrev pub sheetWith : List ℕ → Vehicle → ℤ → List Phase → List Point → Sheet
-sheetWith v vehicle grade phases points =
+abbrev pub sheetWith : List ℕ → Vehicle → ℤ → List Phase → List ℕ → List Point → Sheet
+sheetWith v vehicle grade phases dwell points =
     record {
       issue = getD v (placeFor "issue") 0;
       vehicle = vehicle;
@@ -113,6 +126,8 @@ sheetWith v vehicle grade phases points =
       phases = phases;
       «track_yellow» = getD v (placeFor "track") 0;
       «track_red» = getD v (placeFor "track" + 1) 0;
+      «dwell_count» = getD v (placeFor "dwell") 0;
+      dwell = dwell;
       l18 = getD v (placeFor "l18") 0;
       l19 = getD v (placeFor "l19") 0;
       l20 = getD v (placeFor "l20") 0;
@@ -131,4 +146,4 @@ sheetWith v vehicle grade phases points =
     }
 
 abbrev pub sheetOf : List ℕ → Sheet
-sheetOf v = sheetWith v (vehicleOf (getD v (placeFor "vehicle") 0)) (gradeOf (getD v (placeFor "grade") 0)) (entriesFrom (phaseAt v) mostPhases 0) (entriesFrom (pointAt v) mostPoints 0)
+sheetOf v = sheetWith v (vehicleOf (getD v (placeFor "vehicle") 0)) (gradeOf (getD v (placeFor "grade") 0)) (entriesFrom (phaseAt v) mostPhases 0) (listNumbers v (placeFor "dwell")) (entriesFrom (pointAt v) mostPoints 0)

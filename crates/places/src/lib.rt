@@ -36,8 +36,11 @@ pub fn place(row: usize) -> usize
     if row < FIRST_PHASE {
         return row;
     }
-    if row < table::SINGLE_ROW {
+    if row < table::DWELL_ROW {
         return table::PHASE + 8 * (row - FIRST_PHASE);
+    }
+    if row < table::SINGLE_ROW {
+        return table::DWELL;
     }
     if row < FIRST_POINT {
         return row + table::SINGLE_SHIFT;
@@ -58,8 +61,11 @@ pub fn width(row: usize) -> usize
     if row < table::TRACK_ROW {
         return 8;
     }
-    if row < table::SINGLE_ROW {
+    if row < table::DWELL_ROW {
         return 2;
+    }
+    if row < table::SINGLE_ROW {
+        return 9;
     }
     if row < FIRST_POINT {
         return 1;

@@ -1,2 +1,2 @@
-mod Ranges
+pub mod Ranges
 pub mod Fixed

@@ -1,8 +1,9 @@
 // Whether the numbers of a row are in their ranges.
 ghost use mathlib.Core.Path.{_≡_};
-ghost use Prim.Native.Nat.{_<_};
+ghost use Prim.Native.Nat.{_<_, _≤_};
+ghost use lib.ListN.{take};
 ghost use Rattle.rows.specs.Facts.{factsOf};
-ghost use Rattle.rows.specs.Table.{rowCount, rangesOf, rangeOf, widthOf, placeOf, inRange, inRanges};
+ghost use Rattle.rows.specs.Table.{rowCount, formOf, rangesOf, rangeOf, widthOf, placeOf, usedRanges, inRange, inRanges};
 use rows::Key;
 
 // The least of number j of a row, where `first` is that of the first number.
@@ -18,6 +19,9 @@ fn least(row: usize, j: usize, first: u32) -> u32
             return 30;
         }
         return 0;
+    }
+    if row == rows::table::DWELL_ROW {
+        return 1;
     }
     0
 }
@@ -42,8 +46,11 @@ fn most(row: usize, j: usize, first: u32) -> u32
         }
         return 2;
     }
-    if row < rows::FIRST_POINT {
+    if row < rows::table::DWELL_ROW {
         return 60;
+    }
+    if row < rows::FIRST_POINT {
+        return 8;
     }
     9999
 }
@@ -71,16 +78,39 @@ pub fn fits(row: usize, j: usize, x: u32) -> bool
     x <= 0
 }
 
+fn wide(x: u32) -> usize
+    ensures { λ r. ⌜ r ≡ x ⌝ }
+{
+    x as usize
+}
+
+// How many numbers of a row a sheet has, by the row's form: of a list its count and as many as it counts, else all.
+fn used(numbers: &[u32; rows::NUMBERS], row: usize, form: usize) -> usize
+    requires { ⌜ (row < rowCount) × (form ≡ formOf row) ⌝ }
+    ensures { λ r. ⌜ (r ≤ widthOf row) × (take r (rangesOf row) ≡ usedRanges (now (numbers .entry)) row) ⌝ }
+{
+    let n = places::width(row);
+    if form == rows::LIST {
+        let at = places::place(row);
+        let count = wide(numbers[at]);
+        if count < n {
+            return 1 + count;
+        }
+        return n;
+    }
+    n
+}
+
 // Each number of a row is in its range. The key is looked up once.
 pub fn in_ranges(numbers: &[u32; rows::NUMBERS], row: usize) -> bool
-    ensures { λ r. ⌜ r ≡ inRanges (now (numbers .entry)) (placeOf row) (rangesOf row) ⌝ }
+    ensures { λ r. ⌜ r ≡ inRanges (now (numbers .entry)) (placeOf row) (usedRanges (now (numbers .entry)) row) ⌝ }
 {
     if rows::ROWS <= row {
         return true;
     }
     let key = rows::facts(row);
     let at = places::place(row);
-    let n = places::width(row);
+    let n = used(numbers, row, key.2);
     let mut j: usize = 0;
     while j < n {
         if in_range(row, j, key, numbers[at + j]) {

@@ -21,7 +21,8 @@ unfoldable pub headRule : ℕ → ℕ
 headRule row =
     pick (ltb row firstPhase) row
     (pick (ltb row pastPhases) (placeFor "phase")
-    (pick (ltb row (pastPhases + 1)) (placeFor "track") (pick (ltb row firstPoint) (row + shift) (placeFor "point"))))
+    (pick (ltb row (pastPhases + 1)) (placeFor "track")
+    (pick (ltb row (pastPhases + 2)) (placeFor "dwell") (pick (ltb row firstPoint) (row + shift) (placeFor "point")))))
 
 pub head-ruled : {x : ℕ} (row : ℕ) → row < rowCount → x ≡ headRule row → x ≡ headOf row
 unfolding headRule kindOf pick

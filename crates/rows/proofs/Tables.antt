@@ -1,5 +1,5 @@
 -- The code's rules by the number of a row are the printed table: one computed test for each. Assumes nothing.
-use mathlib.Core.Path.{_≡_, refl, ap, _∙_}
+use mathlib.Core.Path.{_≡_, refl, sym, ap, subst, _∙_}
 use mathlib.Core.Bool.{Bool}
 use mathlib.Core.List.{List, [], _∷_}
 use Prim.Native.Nat.{ℕ, zero, suc, _+_, _-_, _*_, _<_, _≤_}
@@ -7,8 +7,10 @@ use native.Mathlib.Omega.{arith}
 use lib.Dec.{T, eqb, leb, ltb, eqb→eq, leb→le, ltb→lt, lt→ltb}
 use lib.ListN.{getD, length, List·getD-eq-default}
 use Rattle.units.specs.Numbers.{pick}
+use borrow.Author.Tests.{eq-eqb, ltb-true, ltb-false}
+use Rattle.units.proofs.Steps.{split}
 use Rattle.units.proofs.Tested.{given, given-then, allBelow, at, all, entry}
-use Rattle.rows.specs.Table.{Range, _to_, kinds, rows, none, mostPhases, kindCount, rowCount, numberCount, placeFor, phaseKind, pointKind, firstPhase, firstPoint, kindOf, rangesOf, rangeOf, widthOf, placeOf}
+use Rattle.rows.specs.Table.{Range, _to_, plain, list, kinds, rows, none, mostPhases, kindCount, rowCount, numberCount, rowFor, placeFor, phaseKind, pointKind, firstPhase, firstPoint, kindOf, formOf, rangesOf, rangeOf, widthOf, placeOf}
 
 -- ---- the code's rules, in the order of its tests
 
@@ -18,28 +20,31 @@ pastPhases = firstPhase + mostPhases
 unfoldable pub kindRule : ℕ → ℕ
 kindRule row = pick (ltb row firstPhase) row (pick (ltb row pastPhases) phaseKind (pick (ltb row firstPoint) (phaseKind + 1 + (row - pastPhases)) pointKind))
 
--- how much further a row of one number past the track stands than its number says
+-- how much further a row of one number past the list for dwell stands than its number says
 abbrev pub shift : ℕ
-shift = placeFor "track" + 2 - (pastPhases + 1)
+shift = placeFor "dwell" + 1 + mostPhases - (pastPhases + 2)
 
 unfoldable pub placeRule : ℕ → ℕ
 placeRule row =
     pick (ltb row firstPhase) row
     (pick (ltb row (pastPhases + 1)) (placeFor "phase" + 8 * (row - firstPhase))
-    (pick (ltb row firstPoint) (row + shift) (placeFor "point" + 2 * (row - firstPoint))))
+    (pick (ltb row (pastPhases + 2)) (placeFor "dwell") (pick (ltb row firstPoint) (row + shift) (placeFor "point" + 2 * (row - firstPoint)))))
 
 unfoldable pub widthRule : ℕ → ℕ
-widthRule row = pick (ltb row firstPhase) 1 (pick (ltb row pastPhases) 8 (pick (ltb row (pastPhases + 1)) 2 (pick (ltb row firstPoint) 1 2)))
+widthRule row =
+    pick (ltb row firstPhase) 1
+    (pick (ltb row pastPhases) 8
+    (pick (ltb row (pastPhases + 1)) 2 (pick (ltb row (pastPhases + 2)) (1 + mostPhases) (pick (ltb row firstPoint) 1 2))))
 
 -- of the numbers of a phase after its own number
 unfoldable pub phaseMost : ℕ → ℕ
 phaseMost j = pick (ltb j 3) 999 (pick (ltb j 5) 60 (pick (ltb j 7) 999 2))
 
 unfoldable pub leastRule : ℕ → ℕ → ℕ
-leastRule row j = pick (eqb j 0) (rangeOf row 0 .least) (pick (ltb row pastPhases) (pick (eqb j 3) 30 0) 0)
+leastRule row j = pick (eqb j 0) (rangeOf row 0 .least) (pick (ltb row pastPhases) (pick (eqb j 3) 30 0) (pick (eqb row (pastPhases + 1)) 1 0))
 
 unfoldable pub mostRule : ℕ → ℕ → ℕ
-mostRule row j = pick (eqb j 0) (rangeOf row 0 .most) (pick (ltb row pastPhases) (phaseMost j) (pick (ltb row firstPoint) 60 9999))
+mostRule row j = pick (eqb j 0) (rangeOf row 0 .most) (pick (ltb row pastPhases) (phaseMost j) (pick (ltb row (pastPhases + 1)) 60 (pick (ltb row firstPoint) 8 9999)))
 
 -- ---- rows
 
@@ -71,6 +76,32 @@ pub width-ruled : {x : ℕ} (row : ℕ) → row < rowCount → x ≡ widthRule r
 unfolding widthRule widthOf rangesOf kindOf pick
 width-ruled row h e = ruled widthRule widthOf tt row h e
 
+pub width-some : (row : ℕ) → row < rowCount → 0 < widthOf row
+unfolding widthOf rangesOf kindOf
+width-some row h = ltb→lt 0 (widthOf row) (at (λ (r : ℕ). ltb 0 (widthOf r)) rowCount tt row h)
+
+-- a list is a row of the table, and has as many numbers after its count as there is room for phases
+pub record ListRow (row : ℕ) : Type 0 where
+  pub inside : row < rowCount
+  pub width : widthOf row ≡ 1 + mostPhases
+
+pub list-row : (row : ℕ) → formOf row ≡ list → ListRow row
+unfolding formOf widthOf rangesOf kindOf
+list-row row e =
+    split (ltb row rowCount)
+    (λ t.
+    let h = ltb-true row rowCount t in
+    record {
+      inside = h;
+      width =
+          eqb→eq (widthOf row) (1 + mostPhases)
+          (given-then (eqb (formOf row) list) (eqb (widthOf row) (1 + mostPhases)) (at (λ (r : ℕ). given (eqb (formOf r) list) (eqb (widthOf r) (1 + mostPhases))) rowCount tt row h)
+          (subst T (sym (eq-eqb (formOf row) list e)) tt));
+    })
+    (λ t.
+    let past : formOf row ≡ plain = ap (λ (k : ℕ). getD kinds k none .form) (kind-past row (ltb-false row rowCount t)) in
+    absurd (omega arith))
+
 pub place-ruled : {x : ℕ} (row : ℕ) → row < rowCount → x ≡ placeRule row → x ≡ placeOf row
 unfolding placeRule placeOf widthOf rangesOf kindOf pick
 place-ruled row h e = ruled placeRule placeOf tt row h e
@@ -78,6 +109,10 @@ place-ruled row h e = ruled placeRule placeOf tt row h e
 pub place-room : (row : ℕ) → row < rowCount → placeOf row + widthOf row ≤ numberCount
 unfolding placeOf widthOf rangesOf kindOf
 place-room row h = leb→le (placeOf row + widthOf row) numberCount (at (λ (r : ℕ). leb (placeOf r + widthOf r) numberCount) rowCount tt row h)
+
+pub dwell-place : placeOf (rowFor "dwell") ≡ placeFor "dwell"
+unfolding placeOf widthOf rangesOf kindOf
+dwell-place = refl
 
 places-end : placeOf rowCount ≡ numberCount
 unfolding placeOf widthOf rangesOf kindOf
@@ -93,18 +128,23 @@ past-by (suc n) =
 pub place-past : (row : ℕ) → rowCount ≤ row → placeOf row ≡ numberCount
 place-past row h = let e : row ≡ row - rowCount + rowCount = omega arith in rw e (past-by (row - rowCount))
 
+-- any row's place is one of the numbers, or their end
+pub place-within : (row : ℕ) → placeOf row ≤ numberCount
+place-within row =
+    split (ltb row rowCount) (λ t. omega (arith, place-room row (ltb-true row rowCount t))) (λ t. omega (arith, place-past row (ltb-false row rowCount t)))
+
 -- ---- kinds
 
 abbrev pub kindRanges : ℕ → List Range
 kindRanges k = getD kinds k none .ranges
 
--- a test of each number of each kind; no kind has more than 8
-pub for-each : (test : ℕ → ℕ → Bool) → T (allBelow (λ (k : ℕ). allBelow (λ (j : ℕ). given (ltb j (length (kindRanges k))) (test k j)) 8) kindCount) → (k j : ℕ) → k < kindCount → j < length (kindRanges k) → T (test k j)
+-- a test of each number of each kind; no kind has more than 9
+pub for-each : (test : ℕ → ℕ → Bool) → T (allBelow (λ (k : ℕ). allBelow (λ (j : ℕ). given (ltb j (length (kindRanges k))) (test k j)) 9) kindCount) → (k j : ℕ) → k < kindCount → j < length (kindRanges k) → T (test k j)
 for-each test t k j hk hj =
-    let few : length (kindRanges k) ≤ 8 = leb→le (length (kindRanges k)) 8 (at (λ (n : ℕ). leb (length (kindRanges n)) 8) kindCount tt k hk) in
+    let few : length (kindRanges k) ≤ 9 = leb→le (length (kindRanges k)) 9 (at (λ (n : ℕ). leb (length (kindRanges n)) 9) kindCount tt k hk) in
     given-then (ltb j (length (kindRanges k))) (test k j)
-    (at (λ (i : ℕ). given (ltb i (length (kindRanges k))) (test k i)) 8
-    (at (λ (n : ℕ). allBelow (λ (i : ℕ). given (ltb i (length (kindRanges n))) (test n i)) 8) kindCount t k hk)
+    (at (λ (i : ℕ). given (ltb i (length (kindRanges k))) (test k i)) 9
+    (at (λ (n : ℕ). allBelow (λ (i : ℕ). given (ltb i (length (kindRanges n))) (test n i)) 9) kindCount t k hk)
     j
     (omega arith))
     (lt→ltb j (length (kindRanges k)) hj)
@@ -113,13 +153,13 @@ abbrev pub rangeAt : ℕ → ℕ → Range
 rangeAt k j = getD (kindRanges k) j (0 to 0)
 
 -- the same of each number of each row
-for-row : (test : ℕ → ℕ → Bool) → T (allBelow (λ (r : ℕ). allBelow (λ (j : ℕ). given (ltb j (widthOf r)) (test r j)) 8) rowCount) → (row j : ℕ) → row < rowCount → j < widthOf row → T (test row j)
+for-row : (test : ℕ → ℕ → Bool) → T (allBelow (λ (r : ℕ). allBelow (λ (j : ℕ). given (ltb j (widthOf r)) (test r j)) 9) rowCount) → (row j : ℕ) → row < rowCount → j < widthOf row → T (test row j)
 unfolding widthOf rangesOf kindOf
 for-row test t row j h hj =
-    let few : widthOf row ≤ 8 = leb→le (widthOf row) 8 (at (λ (r : ℕ). leb (widthOf r) 8) rowCount tt row h) in
+    let few : widthOf row ≤ 9 = leb→le (widthOf row) 9 (at (λ (r : ℕ). leb (widthOf r) 9) rowCount tt row h) in
     given-then (ltb j (widthOf row)) (test row j)
-    (at (λ (i : ℕ). given (ltb i (widthOf row)) (test row i)) 8
-    (at (λ (r : ℕ). allBelow (λ (i : ℕ). given (ltb i (widthOf r)) (test r i)) 8) rowCount t row h)
+    (at (λ (i : ℕ). given (ltb i (widthOf row)) (test row i)) 9
+    (at (λ (r : ℕ). allBelow (λ (i : ℕ). given (ltb i (widthOf r)) (test r i)) 9) rowCount t row h)
     j
     (omega arith))
     (lt→ltb j (widthOf row) hj)

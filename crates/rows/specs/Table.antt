@@ -5,7 +5,7 @@ use Prim.Native.Char.{code}
 use mathlib.Core.Bool.{Bool, true, false, _&&_}
 use mathlib.Core.List.{List, [], _∷_, _++_}
 use lib.Dec.{leb, ltb, eqb}
-use lib.ListN.{length, getD, replicate}
+use lib.ListN.{length, getD, take, replicate}
 use Rattle.units.specs.Numbers.{pick}
 
 -- a text's bytes
@@ -31,6 +31,9 @@ worded = 1
 abbrev pub signed : ℕ
 signed = 2
 
+abbrev pub list : ℕ
+list = 3
+
 -- a kind of line: its key, how its numbers are written, the range of each, and how many lines of it a sheet can have
 pub record Kind : Type 0 where
   pub key : List ℕ
@@ -44,6 +47,10 @@ kind form key ranges = record { key = bytes key; form = form; ranges = ranges; l
 -- "then that many `phase=` lines", "then that many `point=FEET,TENTHS` lines"
 abbrev pub upTo : ℕ → S.String → List Range → Kind
 upTo most key ranges = record { key = bytes key; form = plain; ranges = ranges; lines = most }
+
+-- a list of at most `most` numbers: first how many they are, then they
+abbrev pub listOf : ℕ → S.String → Range → Kind
+listOf most key range = record { key = bytes key; form = list; ranges = (0 to most) ∷ replicate most range; lines = 1 }
 
 abbrev pub mostPhases : ℕ
 mostPhases = 8
@@ -64,6 +71,8 @@ kinds =
     ∷ upTo mostPhases "phase" ((1 to 8) ∷ (0 to 999) ∷ (0 to 999) ∷ (30 to 60) ∷ (0 to 60) ∷ (0 to 999) ∷ (0 to 999) ∷ (0 to 2) ∷ [])
     -- yellow, red
     ∷ kind plain "track" ((30 to 60) ∷ (0 to 60) ∷ [])
+    -- "after `track`, `dwell=` with rising phase numbers and commas between, or 0 for none"
+    ∷ listOf mostPhases "dwell" (1 to 8)
     ∷ kind plain "l18" ((0 to 400) ∷ [])
     ∷ kind plain "l19" ((1 to 400) ∷ [])
     ∷ kind plain "l20" ((1 to 150) ∷ [])
@@ -172,6 +181,10 @@ widthOf row = length (rangesOf row)
 unfoldable pub placeOf : ℕ → ℕ
 placeOf zero = 0
 placeOf (suc row) = placeOf row + widthOf row
+
+-- the numbers that a sheet has of a row: of a list its count and as many as it counts, else all
+unfoldable pub usedRanges : List ℕ → ℕ → List Range
+usedRanges v row = pick (eqb (formOf row) list) (take (1 + getD v (placeOf row) 0) (rangesOf row)) (rangesOf row)
 
 unfoldable pub inRange : Range → ℕ → Bool
 inRange r x = pick (leb (r .least) x) (leb x (r .most)) false

@@ -4,6 +4,7 @@ pub mod table;
 pub use table::FIRST_PHASE;
 pub use table::FIRST_POINT;
 pub use table::Key;
+pub use table::LIST;
 pub use table::NUMBERS;
 pub use table::PHASE_KIND;
 pub use table::POINT_KIND;

@@ -12,6 +12,9 @@ pub const WORDED: usize = 1;
 
 pub const SIGNED: usize = 2;
 
+// A list: first how many numbers it has, then they, plain.
+pub const LIST: usize = 3;
+
 // How many phases and points a sheet has room for.
 pub const MOST_PHASES: usize = 8;
 
@@ -52,7 +55,11 @@ const TRACK_KEY: Key = Key(*b"track   ", 5, PLAIN, 30, 60);
 
 pub const TRACK_RED: usize = TRACK + 1;
 
-pub const L18: usize = TRACK_RED + 1;
+pub const DWELL: usize = TRACK_RED + 1;
+
+const DWELL_KEY: Key = Key(*b"dwell   ", 5, LIST, 0, 8);
+
+pub const L18: usize = DWELL + 1 + MOST_PHASES;
 
 const L18_KEY: Key = Key(*b"l18     ", 3, PLAIN, 0, 400);
 
@@ -117,12 +124,14 @@ pub const NUMBERS: usize = POINT + 2 * MOST_POINTS;
 const NO_KEY: Key = Key(*b"        ", 0, PLAIN, 0, 0);
 
 // The rows: as many of `phase` and of `point` as there is room for, one of each other key. Those before `phase`, and those from `l18` to `points`, have
-// one number each.
+// one number each; the list for dwell has its count and eight.
 pub const FIRST_PHASE: usize = PHASE;
 
 pub const TRACK_ROW: usize = FIRST_PHASE + MOST_PHASES;
 
-pub const SINGLE_ROW: usize = TRACK_ROW + 1;
+pub const DWELL_ROW: usize = TRACK_ROW + 1;
+
+pub const SINGLE_ROW: usize = DWELL_ROW + 1;
 
 pub const SINGLE_SHIFT: usize = L18 - SINGLE_ROW;
 
@@ -149,8 +158,11 @@ fn head(row: usize) -> usize
     if row < TRACK_ROW {
         return PHASE;
     }
-    if row < SINGLE_ROW {
+    if row < DWELL_ROW {
         return TRACK;
+    }
+    if row < SINGLE_ROW {
+        return DWELL;
     }
     if row < FIRST_POINT {
         return row + SINGLE_SHIFT;
@@ -174,6 +186,7 @@ pub fn facts(row: usize) -> Key
         PHASES => return PHASES_KEY,
         PHASE => return PHASE_KEY,
         TRACK => return TRACK_KEY,
+        DWELL => return DWELL_KEY,
         L18 => return L18_KEY,
         L19 => return L19_KEY,
         L20 => return L20_KEY,

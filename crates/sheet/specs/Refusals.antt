@@ -2,7 +2,7 @@
 use Prim.Native.Nat.{ℕ, _+_, _*_}
 use mathlib.Core.Bool.{Bool, true, false}
 use Rattle.sheet.specs.declared.Refusal.{Refusal}
-use Rattle.sheet.specs.declared.Refusal.the-variants.{Malformed, OutOfRange, PhasesDontRise, PointsDontRise, PedestriansInModeZero, ClearanceTooShort, RelocationBeyondStorage, WarningTooShort, BeyondLastPoint, TrackLongerThanTransfer, NoRoom, UnitUnfit, LoadNotNow, IssueNotNewer, CommandNotAllowed}
+use Rattle.sheet.specs.declared.Refusal.the-variants.{Malformed, OutOfRange, PhasesDontRise, PointsDontRise, PedestriansInModeZero, ClearanceTooShort, RelocationBeyondStorage, WarningTooShort, BeyondLastPoint, TrackLongerThanTransfer, NoRoom, DwellPhaseNotListed, UnitUnfit, LoadNotNow, IssueNotNewer, CommandNotAllowed}
 use Rattle.sheet.specs.declared.Answer.{Answer}
 use Rattle.sheet.specs.declared.Answer.the-variants.{Fine, Refused}
 
@@ -11,7 +11,7 @@ abbrev pub numberOf : Refusal → ℕ
 numberOf Malformed = 1
 -- "a value is out of range"
 numberOf OutOfRange = 2
--- "phase numbers don't rise"
+-- "phase numbers don't rise"; of dwell: "3 when the numbers don't rise"
 numberOf PhasesDontRise = 3
 -- "first point isn't 0,0, distances don't rise, or times fall"
 numberOf PointsDontRise = 4
@@ -29,6 +29,8 @@ numberOf BeyondLastPoint = 9
 numberOf TrackLongerThanTransfer = 10
 -- "the lent output is shorter than the text"
 numberOf NoRoom = 11
+-- "12, a dwell phase not listed on the sheet, after 10, line 0"
+numberOf DwellPhaseNotListed = 12
 -- "a tick or load whose unit has a refused sheet, a phase not listed, a next phase neither listed nor 0, a time above its length or a count above line 3"
 numberOf UnitUnfit = 20
 -- "load outside the place named above"

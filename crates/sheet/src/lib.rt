@@ -35,6 +35,8 @@ pub struct Sheet {
     pub phases: [Phase; 8],
     pub track_yellow: u32,
     pub track_red: u32,
+    pub dwell_count: u32,
+    pub dwell: [u32; 8],
     pub l18: u32,
     pub l19: u32,
     pub l20: u32,
@@ -52,7 +54,7 @@ pub struct Sheet {
     pub points: [Point; 16],
 }
 
-// A case for each number of the paper's table, in its order: 1 to 11, then 20 to 23.
+// A case for each number of the paper's table, in its order: 1 to 11, 12, then 20 to 23.
 pub enum Refusal {
     Malformed,
     OutOfRange,
@@ -65,6 +67,7 @@ pub enum Refusal {
     BeyondLastPoint,
     TrackLongerThanTransfer,
     NoRoom,
+    DwellPhaseNotListed,
     UnitUnfit,
     LoadNotNow,
     IssueNotNewer,

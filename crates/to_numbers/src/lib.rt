@@ -4,7 +4,7 @@ ghost use Prim.Native.Nat.{_≤_, _+_};
 ghost use lib.Seq.{sets};
 ghost use Rattle.sheet.specs.Zero.{zeroPhase, zeroPoint};
 ghost use Rattle.rows.specs.Table.{mostPhases, mostPoints, numberCount, placeFor};
-ghost use Rattle.numbers.specs.Flat.{vehicleNumber, phaseNumbers, pointNumbers, numbersFrom, flatOf};
+ghost use Rattle.numbers.specs.Flat.{vehicleNumber, phaseNumbers, pointNumbers, itself, numbersFrom, dwellPlace, flatOf};
 use rows::NUMBERS;
 use rows::table;
 use rows::table::MOST_PHASES;
@@ -59,6 +59,16 @@ fn with_phases(v: &mut [u32; NUMBERS], phases: [Phase; MOST_PHASES])
     }
 }
 
+fn with_dwell(v: &mut [u32; NUMBERS], dwell: [u32; MOST_PHASES])
+    ensures { λ r. ⌜ now (v .exit) ≡ sets (now (v .entry)) (dwellPlace 0) (numbersFrom itself 0 mostPhases 0 dwell) ⌝ }
+{
+    let mut i: usize = 0;
+    while i < MOST_PHASES {
+        v[table::DWELL + 1 + i] = dwell[i];
+        i += 1;
+    }
+}
+
 fn with_points(v: &mut [u32; NUMBERS], points: [Point; MOST_POINTS])
     ensures { λ r. ⌜ now (v .exit) ≡ sets (now (v .entry)) (placeFor "point") (numbersFrom pointNumbers zeroPoint mostPoints 0 points) ⌝ }
 {
@@ -76,6 +86,7 @@ pub fn flat(s: Sheet) -> [u32; NUMBERS]
 {
     let vehicle = s.vehicle;
     let phases = s.phases;
+    let dwell = s.dwell;
     let points = s.points;
     let mut v = [0u32; NUMBERS];
     v[table::ISSUE] = s.issue;
@@ -86,6 +97,7 @@ pub fn flat(s: Sheet) -> [u32; NUMBERS]
     v[table::PHASES] = s.phase_count;
     v[table::TRACK] = s.track_yellow;
     v[table::TRACK_RED] = s.track_red;
+    v[table::DWELL] = s.dwell_count;
     v[table::L18] = s.l18;
     v[table::L19] = s.l19;
     v[table::L20] = s.l20;
@@ -101,6 +113,7 @@ pub fn flat(s: Sheet) -> [u32; NUMBERS]
     v[table::L58] = s.l58;
     v[table::POINTS] = s.point_count;
     with_phases(&mut v, phases);
+    with_dwell(&mut v, dwell);
     with_points(&mut v, points);
     v
 }

@@ -36,6 +36,7 @@ pub fn zero_sheet() -> Sheet
     let phases = [phase; 8];
     let point = zero_point();
     let points = [point; 16];
+    let dwell = [0u32; 8];
     Sheet {
         issue: 0,
         vehicle: vehicle,
@@ -46,6 +47,8 @@ pub fn zero_sheet() -> Sheet
         phases: phases,
         track_yellow: 0,
         track_red: 0,
+        dwell_count: 0,
+        dwell: dwell,
         l18: 0,
         l19: 0,
         l20: 0,

@@ -1,11 +1,12 @@
 -- `from_numbers::sheet_of` meets its contract: part by part. Assumes nothing.
-use mathlib.Core.Path.{_≡_, _∙_}
+use mathlib.Core.Path.{_≡_, ap, _∙_}
 use mir.Syntax.{w16}
 use mir.Val.{toZ, ofZ}
 use mir.Facts.{toZ-ofZ}
 use lib.ListN.{getD}
 use Rattle.rows.specs.Table.{placeFor}
-use Rattle.numbers.specs.Flat.{gradeOf, sheetWith}
+use Rattle.rows.proofs.Tables.{dwell-place}
+use Rattle.numbers.specs.Flat.{gradeOf, listNumbers, sheetWith}
 use borrow.Author.Needs.{needs}
 use Rattle.from_numbers.proofs.sheet_of.Statement.{statement}
 use Rattle.from_numbers.proofs.sheet_of.Tie as tie
@@ -25,6 +26,9 @@ grade-of-requires c κs = search needs
 phases-of-requires : tie.Need-phases-of-requires
 phases-of-requires c κs = search needs
 
+list-at-requires : tie.Need-list-at-requires
+list-at-requires c κs = search needs
+
 points-of-requires : tie.Need-points-of-requires
 points-of-requires c κs = search needs
 
@@ -33,9 +37,10 @@ sheet-with-requires c κs = search needs
 
 returns : tie.Need-returns
 returns c =
-    let v = c .before .before .before .before .before .before .before .args .numbers .now in
-    let g : toZ w16 (ofZ w16 (c .before .before .before .grade-of .result)) ≡ gradeOf (getD v (placeFor "grade") 0) = toZ-ofZ {w = w16} {z = c .before .before .before .grade-of .result} (record { sfits = c .before .before .before .grade-of .ok }) ∙ c .before .before .before .grade-of .ensures in
-    c .sheet-with .ensures ∙ λ i. sheetWith v (c .before .before .before .before .before .vehicle-of .ensures i) (g i) (c .before .before .phases-of .ensures i) (c .before .points-of .ensures i)
+    let v = c .before .before .before .before .before .before .before .before .args .numbers .now in
+    let g : toZ w16 (ofZ w16 (c .before .before .before .before .grade-of .result)) ≡ gradeOf (getD v (placeFor "grade") 0) = toZ-ofZ {w = w16} {z = c .before .before .before .before .grade-of .result} (record { sfits = c .before .before .before .before .grade-of .ok }) ∙ c .before .before .before .before .grade-of .ensures in
+    let d : c .before .before .list-at .result ≡ listNumbers v (placeFor "dwell") = c .before .before .list-at .ensures ∙ ap (listNumbers v) dwell-place in
+    c .sheet-with .ensures ∙ λ i. sheetWith v (c .before .before .before .before .before .before .vehicle-of .ensures i) (g i) (c .before .before .before .phases-of .ensures i) (d i) (c .before .points-of .ensures i)
 
 pub sheet-of-spec : {M : Type 1} → statement M
 sheet-of-spec =
@@ -46,6 +51,7 @@ sheet-of-spec =
     element-copy-out-grade-of
     grade-of-requires
     phases-of-requires
+    list-at-requires
     points-of-requires
     sheet-with-requires
     returns)

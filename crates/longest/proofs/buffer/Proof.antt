@@ -2,12 +2,12 @@
 use mathlib.Core.Path.{refl}
 use Rattle.units.specs.Numbers.{pick}
 use Rattle.rows.specs.Table.{keyOf, formOf, widthOf, rangesOf, kindOf}
-use Rattle.rows.specs.Longest.{longestFrom, longestFields, longestField}
+use Rattle.rows.specs.Longest.{longestFrom, longestFields, longestField, mostFields}
 use Rattle.longest.proofs.buffer.Statement.{statement}
 use Rattle.longest.proofs.buffer.Tie as tie
 
 returns : tie.Need-returns
-unfolding longestFrom longestFields longestField pick keyOf formOf widthOf rangesOf kindOf
+unfolding longestFrom longestFields longestField mostFields pick keyOf formOf widthOf rangesOf kindOf
 returns c =
     refl
 

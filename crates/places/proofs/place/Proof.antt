@@ -23,13 +23,18 @@ unfolding placeRule
 returns-2 c =
     place-ruled (c .before .before .args .row) (omega arith) (search steps)
 
-add-result-2 : tie.Need-add-result-2
-add-result-2 c = search needs
-
 returns-3 : tie.Need-returns-3
 unfolding placeRule
 returns-3 c =
     place-ruled (c .before .before .before .args .row) (omega arith) (search steps)
+
+add-result-2 : tie.Need-add-result-2
+add-result-2 c = search needs
+
+returns-4 : tie.Need-returns-4
+unfolding placeRule
+returns-4 c =
+    place-ruled (c .before .before .before .before .args .row) (omega arith) (search steps)
 
 mul-result-2 : tie.Need-mul-result-2
 mul-result-2 c = search needs
@@ -37,14 +42,14 @@ mul-result-2 c = search needs
 add-result-3 : tie.Need-add-result-3
 add-result-3 c = search needs
 
-returns-4 : tie.Need-returns-4
-unfolding placeRule
-returns-4 c =
-    place-ruled (c .before .before .before .before .args .row) (omega arith) (search steps)
-
 returns-5 : tie.Need-returns-5
+unfolding placeRule
 returns-5 c =
-    sym (place-past (c .before .before .before .before .args .row) (omega arith))
+    place-ruled (c .before .before .before .before .before .args .row) (omega arith) (search steps)
+
+returns-6 : tie.Need-returns-6
+returns-6 c =
+    sym (place-past (c .before .before .before .before .before .args .row) (omega arith))
 
 pub place-spec : {M : Type 1} → statement M
 place-spec =
@@ -54,9 +59,10 @@ place-spec =
     mul-result
     add-result
     returns-2
-    add-result-2
     returns-3
+    add-result-2
+    returns-4
     mul-result-2
     add-result-3
-    returns-4
-    returns-5)
+    returns-5
+    returns-6)

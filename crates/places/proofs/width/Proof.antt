@@ -32,8 +32,13 @@ returns-5 c =
     width-ruled (c .before .before .before .before .before .args .row) (omega arith) (search steps)
 
 returns-6 : tie.Need-returns-6
+unfolding widthRule
 returns-6 c =
-    sym (width-past (c .before .before .before .before .before .args .row) (omega arith))
+    width-ruled (c .before .before .before .before .before .before .args .row) (omega arith) (search steps)
+
+returns-7 : tie.Need-returns-7
+returns-7 c =
+    sym (width-past (c .before .before .before .before .before .before .args .row) (omega arith))
 
 pub width-spec : {M : Type 1} → statement M
-width-spec = tie.close (tie.spec returns returns-2 returns-3 returns-4 returns-5 returns-6)
+width-spec = tie.close (tie.spec returns returns-2 returns-3 returns-4 returns-5 returns-6 returns-7)

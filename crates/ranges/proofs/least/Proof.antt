@@ -24,7 +24,12 @@ returns-3 c =
 returns-4 : tie.Need-returns-4
 unfolding leastRule
 returns-4 c =
-    least-ruled (c .before .before .args .row) (c .before .before .args .j) (c .before .before .pre .0) (c .before .before .pre .1) (search steps)
+    least-ruled (c .before .before .before .args .row) (c .before .before .before .args .j) (c .before .before .before .pre .0) (c .before .before .before .pre .1) (search steps)
+
+returns-5 : tie.Need-returns-5
+unfolding leastRule
+returns-5 c =
+    least-ruled (c .before .before .before .args .row) (c .before .before .before .args .j) (c .before .before .before .pre .0) (c .before .before .before .pre .1) (search steps)
 
 pub least-spec : {M : Type 1} → statement M
-least-spec = tie.close (tie.spec returns returns-2 returns-3 returns-4)
+least-spec = tie.close (tie.spec returns returns-2 returns-3 returns-4 returns-5)

@@ -39,9 +39,14 @@ returns-6 c =
 returns-7 : tie.Need-returns-7
 unfolding mostRule
 returns-7 c =
-    most-ruled (c .before .before .before .args .row) (c .before .before .before .args .j) (c .before .before .before .pre .0) (c .before .before .before .pre .1) (search steps)
+    most-ruled (c .before .before .before .before .args .row) (c .before .before .before .before .args .j) (c .before .before .before .before .pre .0) (c .before .before .before .before .pre .1) (search steps)
+
+returns-8 : tie.Need-returns-8
+unfolding mostRule
+returns-8 c =
+    most-ruled (c .before .before .before .before .args .row) (c .before .before .before .before .args .j) (c .before .before .before .before .pre .0) (c .before .before .before .before .pre .1) (search steps)
 
 pub most-spec : {M : Type 1} → statement M
 most-spec =
     tie.close
-    (tie.spec returns returns-2 returns-3 returns-4 returns-5 returns-6 returns-7)
+    (tie.spec returns returns-2 returns-3 returns-4 returns-5 returns-6 returns-7 returns-8)

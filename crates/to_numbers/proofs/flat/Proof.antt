@@ -81,16 +81,22 @@ array-write-v-21 c = search needs
 array-write-v-22 : tie.Need-array-write-v-22
 array-write-v-22 c = search needs
 
+array-write-v-23 : tie.Need-array-write-v-23
+array-write-v-23 c = search needs
+
 with-phases-requires : tie.Need-with-phases-requires
 with-phases-requires c κs = search needs
+
+with-dwell-requires : tie.Need-with-dwell-requires
+with-dwell-requires c κs = search needs
 
 with-points-requires : tie.Need-with-points-requires
 with-points-requires c κs = search needs
 
 returns : tie.Need-returns
 returns c =
-    let f : SFits w16 (c .before .before .before .before .before .before .before .before .before .args .s .grade) = search needs in
-    stored (c .before .before .before .before .before .before .before .before .before .args .s) _ _ _ _ (c .before .before .before .before .before .before .vehicle-number .ensures) (c .before .before .before .before .grade-number .ensures ∙ ap gradeNumber (toZ-ofZ f)) (c .before .before .with-phases .ensures) (c .with-points .ensures)
+    let f : SFits w16 (c .before .before .before .before .before .before .before .before .before .before .before .before .args .s .grade) = search needs in
+    stored (c .before .before .before .before .before .before .before .before .before .before .before .before .args .s) _ _ _ _ _ (c .before .before .before .before .before .before .before .before .vehicle-number .ensures) (c .before .before .before .before .before .before .grade-number .ensures ∙ ap gradeNumber (toZ-ofZ f)) (c .before .before .before .before .with-phases .ensures) (c .before .before .with-dwell .ensures) (c .with-points .ensures)
 
 pub flat-spec : {M : Type 1} → statement M
 flat-spec =
@@ -120,6 +126,8 @@ flat-spec =
     array-write-v-20
     array-write-v-21
     array-write-v-22
+    array-write-v-23
     with-phases-requires
+    with-dwell-requires
     with-points-requires
     returns)

@@ -102,6 +102,10 @@ returns-23 c =
 
 returns-24 : tie.Need-returns-24
 returns-24 c =
+    facts-at (c .before .before .args .row) _ _ (c .before .head .ensures) (c .match .keys24) refl
+
+returns-25 : tie.Need-returns-25
+returns-25 c =
     facts-past (c .before .before .args .row) _ (c .before .head .ensures) (c .match .rest) refl
 
 pub facts-spec : {M : Type 1} → statement M
@@ -132,4 +136,5 @@ facts-spec =
     returns-21
     returns-22
     returns-23
-    returns-24)
+    returns-24
+    returns-25)

@@ -21,13 +21,13 @@ unfolding headRule
 returns-3 c =
     head-ruled (c .before .before .before .args .row) (omega arith) (search steps)
 
-add-result : tie.Need-add-result
-add-result c = search needs
-
 returns-4 : tie.Need-returns-4
 unfolding headRule
 returns-4 c =
     head-ruled (c .before .before .before .before .args .row) (omega arith) (search steps)
+
+add-result : tie.Need-add-result
+add-result c = search needs
 
 returns-5 : tie.Need-returns-5
 unfolding headRule
@@ -35,9 +35,14 @@ returns-5 c =
     head-ruled (c .before .before .before .before .before .args .row) (omega arith) (search steps)
 
 returns-6 : tie.Need-returns-6
+unfolding headRule
 returns-6 c =
-    head-past (c .before .before .before .before .before .args .row) (omega arith)
+    head-ruled (c .before .before .before .before .before .before .args .row) (omega arith) (search steps)
+
+returns-7 : tie.Need-returns-7
+returns-7 c =
+    head-past (c .before .before .before .before .before .before .args .row) (omega arith)
 
 pub head-spec : {M : Type 1} → statement M
 head-spec =
-    tie.close (tie.spec returns returns-2 returns-3 add-result returns-4 returns-5 returns-6)
+    tie.close (tie.spec returns returns-2 returns-3 returns-4 add-result returns-5 returns-6 returns-7)
