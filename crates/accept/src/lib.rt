@@ -1,7 +1,7 @@
-// Whether a sheet is accepted: refusals 2 to 6 line by line, then 7 to 10 on the whole. The lines are looked at where the sheet has their values, in the order and
+// Whether a sheet is accepted: refusals 2 to 6 line by line, then 7 to 10 and 12 on the whole. The lines are looked at where the sheet has their values, in the order and
 // with the ranges of the table of lines.
 ghost use mathlib.Core.Path.{_≡_};
-ghost use Prim.Native.Nat.{_+_, _-_, _≤_, _<_};
+ghost use Prim.Native.Nat.{_+_, _-_, _≤_, _<_, min};
 ghost use lib.Dec.{eqb};
 ghost use Rattle.units.specs.Numbers.{pick, both};
 ghost use Rattle.sheet.specs.Refusals.{orElse};
@@ -9,11 +9,12 @@ ghost use Rattle.rows.specs.Table.{inRange, rangeOf, rowFor, rowCount, firstPha
 ghost use Rattle.numbers.specs.Flat.{flatOf};
 ghost use Rattle.faults.specs.Lines.{startsAtZero, pointRises, faultFrom};
 ghost use Rattle.faults.specs.Whole.{acceptOf};
-ghost use Rattle.faults.proofs.Accepted.{afterPhases, between};
+ghost use Rattle.faults.proofs.Accepted.{afterPhases, between, firstSingle};
 ghost use Rattle.faults.proofs.Values.{absentPhases, oneFault, onesOf, pointLine};
 use ranges::fits;
 use rows::FIRST_POINT;
 use rows::table;
+use rows::table::DWELL_ROW;
 use rows::table::MOST_PHASES;
 use rows::table::MOST_POINTS;
 use rows::table::SINGLE_ROW;
@@ -56,12 +57,12 @@ fn head_fault(s: Sheet) -> Answer
     next(l02, table::PHASES, s.phase_count)
 }
 
-// How many rows of one number stand past the track, and their first fault.
+// How many rows of one number stand past the list for dwell, and their first fault.
 const SINGLES: usize = FIRST_POINT - SINGLE_ROW;
 
 fn singles_fault(numbers: [u32; SINGLES], absent: u32) -> Answer
     requires { ⌜ absent ≤ mostPhases ⌝ }
-    ensures { λ r. ⌜ r ≡ onesOf numbers (afterPhases + 1) absent ⌝ }
+    ensures { λ r. ⌜ r ≡ onesOf numbers firstSingle absent ⌝ }
 {
     let mut i: usize = 0;
     while i < SINGLES {
@@ -95,6 +96,8 @@ fn middle_fault(s: Sheet, absent: u32) -> Answer
         Refusal::OutOfRange,
         line,
     );
+    let named = s.dwell;
+    let dwell = dwell_line::dwell_fault(named, s.dwell_count, line_of(DWELL_ROW, absent));
     let numbers = [
         s.l18,
         s.l19,
@@ -111,7 +114,10 @@ fn middle_fault(s: Sheet, absent: u32) -> Answer
         s.l58,
         s.point_count,
     ];
-    answers::or_else(track, singles_fault(numbers, absent))
+    answers::or_else(
+        track,
+        answers::or_else(dwell, singles_fault(numbers, absent)),
+    )
 }
 
 fn point_in(p: Point) -> bool
@@ -138,12 +144,19 @@ fn point_line(i: usize, before: Point, p: Point, absent: u32) -> Answer
     )
 }
 
+// How many of the counted points there is room for.
+fn listed_points(count: u32) -> usize
+    ensures { λ r. ⌜ r ≡ min count mostPoints ⌝ }
+{
+    units::smaller(count as u64, MOST_POINTS as u64) as usize
+}
+
 fn points_fault(s: Sheet, absent: u32) -> Answer
     requires { ⌜ absent ≤ mostPhases ⌝ }
     ensures { λ r. ⌜ r ≡ faultFrom (flatOf s) mostPoints firstPoint (firstPoint + 1 - absent) ⌝ }
 {
     let points = s.points;
-    let n = units::smaller(s.point_count as u64, MOST_POINTS as u64) as usize;
+    let n = listed_points(s.point_count);
     let mut before = zeros::zero_point();
     let mut i: usize = 0;
     while i < n {

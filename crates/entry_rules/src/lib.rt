@@ -1,8 +1,9 @@
-// The rules that a phase and a point keep besides their ranges: refusals 3 to 6. They are asked of a text's numbers and of a sheet's values alike.
+// The rules that a phase, a point and a list keep besides their ranges: refusals 3 to 6. They are asked of a text's numbers and of a sheet's values alike.
 ghost use mathlib.Core.Path.{_≡_};
 ghost use lib.Dec.{eqb};
+ghost use lib.ListN.{take};
 ghost use Rattle.units.specs.Numbers.{pick};
-ghost use Rattle.faults.specs.Lines.{quietInModeZero, clearsYellowAndRed, phaseFault, startsAtZero, pointRises};
+ghost use Rattle.faults.specs.Lines.{quietInModeZero, clearsYellowAndRed, phaseFault, startsAtZero, pointRises, risesAfter};
 use sheet::Answer;
 use sheet::Phase;
 use sheet::Point;
@@ -63,4 +64,23 @@ pub fn point_fits(i: usize, before: Point, p: Point) -> bool
     } else {
         point_rises(before, p)
     }
+}
+
+// The first `count` of the numbers rise, from above 0.
+pub fn rises(numbers: [u32; 8], count: u32) -> bool
+    ensures { λ r. ⌜ r ≡ risesAfter 0 (take count numbers) ⌝ }
+{
+    let n = units::smaller(count as u64, 8) as usize;
+    let mut before: u32 = 0;
+    let mut i: usize = 0;
+    while i < n {
+        let x = numbers[i];
+        if before < x {
+            before = x;
+            i += 1;
+        } else {
+            return false;
+        }
+    }
+    true
 }

@@ -1,4 +1,4 @@
--- A sound sheet is accepted: each row is in its ranges and keeps its rule, and 7 to 10 do not apply. Assumes nothing.
+-- A sound sheet is accepted: each row is in its ranges and keeps its rule, and 7 to 10 and 12 do not apply. Assumes nothing.
 use mathlib.Core.Path.{_≡_, refl, sym, _∙_, subst}
 use mathlib.Core.Bool.{Bool, true, false}
 use mathlib.Core.List.{List, [], _∷_}
@@ -7,7 +7,7 @@ use native.Mathlib.Numerals.{add-one}
 use native.Mathlib.Nat.{not-suc-le-zero}
 use native.Mathlib.Omega.{arith}
 use lib.Dec.{T, eqb}
-use lib.ListN.{length, getD, take}
+use lib.ListN.{length, getD, take, length-take}
 use lib.Seq.{getD-take, length-take-le}
 use borrow.Author.Tests.{ltb-true, lt-ltb, le-ltb, ne-eqb}
 use Rattle.units.specs.Lists.{All}
@@ -20,16 +20,18 @@ use Rattle.sheet.specs.declared.Vehicle.{Vehicle}
 use Rattle.sheet.specs.declared.Vehicle.the-variants.{Car, Su, Bus, Wb50}
 use Rattle.sheet.specs.declared.Answer.the-variants.{Fine}
 use Rattle.sheet.specs.declared.Refusal.the-variants.{OutOfRange}
-use Rattle.sheet.specs.Entries.{Shaped, nthPhase, nthPoint}
+use Rattle.sheet.specs.Entries.{Shaped, listedPhases, dwellNumbers, nthPhase, nthPoint}
 use Rattle.sheet.specs.Zero.{zeroPhase, zeroPoint}
 use Rattle.sheet.proofs.Answers.{fine-both, holds}
-use Rattle.rows.specs.Table.{Range, none, kinds, rows, kindOf, rangesOf, widthOf, placeOf, inRange, inRanges, present, phaseKind, pointKind, rowCount, mostPhases, mostPoints, placeFor, firstPhase, firstPoint}
+use Rattle.rows.specs.Table.{Range, _to_, list, none, kinds, rows, kindOf, formOf, rangesOf, rangeOf, widthOf, placeOf, usedRanges, inRange, inRanges, present, phaseKind, pointKind, rowCount, mostPhases, mostPoints, rowFor, placeFor, firstPhase, firstPoint}
+use Rattle.rows.proofs.Tables.{dwell-place}
 use Rattle.numbers.specs.Flat.{vehicleNumber, numbersFrom, flatOf, phasePlace, pointPlace}
-use Rattle.faults.specs.Lines.{ruleFault, rowFault, hereFault, lineAfter, faultFrom, linesFault}
+use Rattle.faults.specs.Lines.{risesAfter, ruleFault, rowFault, hereFault, lineAfter, faultFrom, linesFault}
 use Rattle.faults.specs.Whole.{wholeFault, acceptOf}
 use Rattle.faults.specs.Ranges.{Between, SoundPhase, SoundPoint, Sound, SoundIsAccepted, AcceptedWhenSound}
 use Rattle.faults.proofs.Rules.{phase-fine, at-zero-holds, point-rises-holds}
-use Rattle.faults.proofs.Sound.{phase-in, point-in, phases-at, points-at, phase-kind, phase-place, point-kind, point-place, ranges-by, before, fitting, phase-rule, point-rule, sound}
+use Rattle.faults.proofs.Lists.{steps-rise, each-listed}
+use Rattle.faults.proofs.Sound.{phase-in, point-in, dwell-in, dwellEntries, dwell-used, dwell-rule, dwell-entry, dwell-long, dwell-count-range, dwell-range, phases-at, points-at, phase-kind, phase-place, point-kind, point-place, used-by, before, fitting, phase-rule, point-rule, sound}
 
 -- ---- ranges
 
@@ -45,12 +47,25 @@ in-range r x b =
     let high = b .high in
     search steps
 
-within : (v : List ℕ) (at j : ℕ) (rs : List Range) → Within v at j rs → inRanges v (at + j) rs ≡ true
+within-from : (v : List ℕ) (at j : ℕ) (rs : List Range) → Within v at j rs → inRanges v (at + j) rs ≡ true
 unfolding inRanges pick
-within v at j [] w = refl
-within v at j (r ∷ rs) w =
+within-from v at j [] w = refl
+within-from v at j (r ∷ rs) w =
     let e : at + j + 1 ≡ at + suc j = omega arith in
-    rw (← in-range r (getD v (at + j) 0) (w .0), e) (within v at (suc j) rs (w .1))
+    rw (← in-range r (getD v (at + j) 0) (w .0), e) (within-from v at (suc j) rs (w .1))
+
+within : (v : List ℕ) (at : ℕ) (rs : List Range) → Within v at 0 rs → inRanges v at rs ≡ true
+within v at rs w = let z : at + 0 ≡ at = omega arith in rw z at (within-from v at 0 rs w)
+
+-- the same where each is said by its place
+each-in : (v : List ℕ) (at : ℕ) (rs : List Range)
+    → ((j : ℕ) → j < length rs → Between (getD rs j (0 to 0) .least) (getD v (at + j) 0) (getD rs j (0 to 0) .most)) → inRanges v at rs ≡ true
+unfolding inRanges pick
+each-in v at [] f = refl
+each-in v at (r ∷ rs) f =
+    let z : at + 0 ≡ at = omega arith in
+    rw (← in-range r (getD v at 0) (rw z at (f 0 (omega arith))))
+    (each-in v (at + 1) rs (λ j h. let e : at + suc j ≡ at + 1 + j = omega arith in rw e at (f (suc j) (omega arith))))
 
 up-to : {x most : ℕ} → x ≤ most → Between 0 x most
 up-to h = record { low = zero-le; high = h }
@@ -63,14 +78,13 @@ FineAt v row = (line : ℕ) → hereFault v row line ≡ Fine
 abbrev FineFrom : List ℕ → ℕ → ℕ → Type 0
 FineFrom v n row = (line : ℕ) → faultFrom v n row line ≡ Fine
 
-fine-at : (v : List ℕ) (row at : ℕ) (rs : List Range) → placeOf row ≡ at → rangesOf row ≡ rs
-    → (present v row ≡ true → Within v at 0 rs) → (present v row ≡ true → (line : ℕ) → ruleFault v row line ≡ Fine) → FineAt v row
+fine-at : (v : List ℕ) (row at : ℕ) (rs : List Range) → placeOf row ≡ at → usedRanges v row ≡ rs
+    → (present v row ≡ true → inRanges v at rs ≡ true) → (present v row ≡ true → (line : ℕ) → ruleFault v row line ≡ Fine) → FineAt v row
 unfolding hereFault rowFault pick
 fine-at v row at rs p r w rule line =
-    let z : at + 0 ≡ at = omega arith in
     split (present v row)
     (λ e.
-    let ranges = holds (inRanges v at rs) OutOfRange line (rw z at (within v at 0 rs (w e))) in
+    let ranges = holds (inRanges v at rs) OutOfRange line (w e) in
     let rules = rule e line in
     rw (e, p, r) (search fine-both))
     (λ e. rw e refl)
@@ -105,6 +119,13 @@ afterPhases = firstPhase + mostPhases
 
 abbrev pub between : ℕ
 between = firstPoint - afterPhases
+
+-- of those the rows of one number stand last: all but the track and the list for dwell
+abbrev pub firstSingle : ℕ
+firstSingle = afterPhases + 2
+
+abbrev pub singles : ℕ
+singles = firstPoint - firstSingle
 
 phase-counted : (v : List ℕ) (i : ℕ) → i < mostPhases → present v (firstPhase + i) ≡ true → i < getD v (placeFor "phases") 0
 unfolding present pick
@@ -142,8 +163,8 @@ module _ (s : Sheet) (shaped : Shaped s) (h : Sound s) where
 
   phase-row : (i : ℕ) → i < mostPhases → FineAt (flatOf s) (firstPhase + i)
   phase-row i b =
-      fine-at (flatOf s) (firstPhase + i) (phasePlace i) (getD kinds phaseKind none .ranges) (phase-place i b) (ranges-by (firstPhase + i) phaseKind (phase-kind i b))
-      (λ e. phase-ranges i b (rw (phases-at s) at (phase-counted (flatOf s) i b e)))
+      fine-at (flatOf s) (firstPhase + i) (phasePlace i) (getD kinds phaseKind none .ranges) (phase-place i b) (used-by (flatOf s) (firstPhase + i) phaseKind (phase-kind i b) refl)
+      (λ e. within _ _ _ (phase-ranges i b (rw (phases-at s) at (phase-counted (flatOf s) i b e))))
       (λ e line.
       let c = rw (phases-at s) at (phase-counted (flatOf s) i b e) in
       let p = nth-phase i c in
@@ -168,9 +189,40 @@ module _ (s : Sheet) (shaped : Shaped s) (h : Sound s) where
 
   point-row : (i : ℕ) → i < mostPoints → FineAt (flatOf s) (firstPoint + i)
   point-row i b =
-      fine-at (flatOf s) (firstPoint + i) (pointPlace i) (getD kinds pointKind none .ranges) (point-place i b) (ranges-by (firstPoint + i) pointKind (point-kind i b))
-      (λ e. point-ranges i b (rw (points-at s) at (point-counted (flatOf s) i b e)))
+      fine-at (flatOf s) (firstPoint + i) (pointPlace i) (getD kinds pointKind none .ranges) (point-place i b) (used-by (flatOf s) (firstPoint + i) pointKind (point-kind i b) refl)
+      (λ e. within _ _ _ (point-ranges i b (rw (points-at s) at (point-counted (flatOf s) i b e))))
       (λ e line. point-rule s i line b ∙ holds _ _ _ (sym (fits i (rw (points-at s) at (point-counted (flatOf s) i b e)))))
+
+  dwell-number : (i : ℕ) → i < s .«dwell_count» → Between 1 (getD (s .dwell) i 0) 8
+  dwell-number i c =
+      entry (λ (n : ℕ). Between 1 n 8) (s .dwell) 0 (s .«dwell_count») (omega (arith, shaped .dwell, h .«dwell_count»)) (h .dwell) i c
+
+  -- number j of the row: the count is the first
+  dwell-between : (j : ℕ) → j < 1 + s .«dwell_count» → Between (rangeOf (rowFor "dwell") j .least) (getD (s .«dwell_count» ∷ s .dwell) j 0) (rangeOf (rowFor "dwell") j .most)
+  dwell-between zero c = rw dwell-count-range (up-to (h .«dwell_count»))
+  dwell-between (suc i) c = let few = h .«dwell_count» in rw (dwell-range i (omega arith)) (dwell-number i (omega arith))
+
+  dwell-ranges : inRanges (flatOf s) (placeFor "dwell") (take (1 + s .«dwell_count») (rangesOf (rowFor "dwell"))) ≡ true
+  dwell-ranges =
+      let n = 1 + s .«dwell_count» in
+      let rs = rangesOf (rowFor "dwell") in
+      let few = h .«dwell_count» in
+      each-in (flatOf s) (placeFor "dwell") (take n rs)
+      (λ j b.
+      let c : j < n = omega (arith, length-take n rs) in
+      rw (getD-take n rs j (0 to 0) c, dwell-in s j (omega arith)) (dwell-between j c))
+
+  dwell-rises : risesAfter 0 (take (s .«dwell_count») (dwellEntries s)) ≡ true
+  dwell-rises =
+      let few = h .«dwell_count» in
+      let long = dwell-long s few in
+      steps-rise 0 (take (s .«dwell_count») (dwellEntries s))
+      (λ b. rw (dwell-entry s 0 (omega arith) (omega arith)) (dwell-number 0 (omega arith) .low))
+      (λ i b. rw (dwell-entry s i (omega arith) (omega arith), dwell-entry s (suc i) (omega arith) (omega arith)) (rw (add-one i) at (h .climbing i (omega arith))))
+
+  dwell-row : FineAt (flatOf s) (rowFor "dwell")
+  dwell-row =
+      fine-at (flatOf s) (rowFor "dwell") (placeFor "dwell") _ dwell-place (dwell-used s) (λ e. dwell-ranges) (λ e line. dwell-rule s line ∙ holds _ _ _ dwell-rises)
 
   whole : wholeFault s ≡ Fine
   unfolding wholeFault
@@ -179,8 +231,11 @@ module _ (s : Sheet) (shaped : Shaped s) (h : Sound s) where
       let warning = h .warning in
       let distance = h .distance in
       let track = h .track in
+      let listed = each-listed (listedPhases s) (dwellNumbers s) (h .dwellListed) in
       fine-both _ _ (holds _ _ _ (search steps))
-      (fine-both _ _ (holds _ _ _ (search steps)) (fine-both _ _ (holds _ _ _ (search steps)) (holds _ _ _ (search steps))))
+      (fine-both _ _ (holds _ _ _ (search steps))
+      (fine-both _ _ (holds _ _ _ (search steps))
+      (fine-both _ _ (holds _ _ _ (search steps)) (holds _ _ _ (search steps)))))
 
 vehicle-range : (v : Vehicle) → Between 0 (vehicleNumber v) 3
 vehicle-range Car = up-to (omega arith)
@@ -188,9 +243,12 @@ vehicle-range Su = up-to (omega arith)
 vehicle-range Bus = up-to (omega arith)
 vehicle-range Wb50 = up-to (omega arith)
 
--- n rows from `row` on that have no rule but their ranges
-abbrev pub NoRule : ℕ → Type 0
-NoRule row = (v : List ℕ) (line : ℕ) → ruleFault v row line ≡ Fine
+-- a row that has all its numbers, and no rule but their ranges
+pub record NoRule (row : ℕ) : Type 0 where
+  pub used : (v : List ℕ) → usedRanges v row ≡ rangesOf row
+  pub rule : (v : List ℕ) (line : ℕ) → ruleFault v row line ≡ Fine
+
+-- n rows from `row` on
 
 abbrev Plain : List ℕ → ℕ → ℕ → Type 0
 Plain v zero row = Unit {0}
@@ -200,7 +258,8 @@ plain : (v : List ℕ) (n row : ℕ) → ((i : ℕ) → i < n → NoRule (row + 
 plain v zero row none w i h = absurd (not-suc-le-zero h)
 plain v (suc n) row none w zero h =
     let z : row + 0 ≡ row = omega arith in
-    rw z (fine-at v row (placeOf row) (rangesOf row) refl refl (λ e. w .0) (λ e. rw z at (none 0 (omega arith)) v))
+    let here : NoRule row = rw z at (none 0 (omega arith)) in
+    rw z (fine-at v row (placeOf row) (rangesOf row) refl (here .used v) (λ e. within v (placeOf row) (rangesOf row) (w .0)) (λ e. here .rule v))
 plain v (suc n) row none w (suc i) h =
     let e : row + suc i ≡ row + 1 + i = omega arith in
     rw e
@@ -208,24 +267,34 @@ plain v (suc n) row none w (suc i) h =
     (λ j b. let d : row + suc j ≡ row + 1 + j = omega arith in rw d at (none (suc j) (omega arith)))
     (w .1) i (omega arith))
 
--- a row whose kind is neither a phase nor a point
+-- a row whose kind is neither a phase nor a point, and no list
 unfoldable pub unruled : ℕ → Bool
-unruled row = pick (eqb (kindOf row) phaseKind) false (pick (eqb (kindOf row) pointKind) false true)
+unruled row = pick (eqb (kindOf row) phaseKind) false (pick (eqb (kindOf row) pointKind) false (pick (eqb (formOf row) list) false true))
 
 pub no-rule : (row : ℕ) → T (unruled row) → NoRule row
-unfolding ruleFault unruled pick
-no-rule row t v line =
+unfolding usedRanges ruleFault unruled pick
+no-rule row t =
     split (eqb (kindOf row) phaseKind)
     (λ e. absurd (rw e at t))
-    (λ e. split (eqb (kindOf row) pointKind) (λ d. absurd (rw (e, d) at t)) (λ d. rw (e, d) refl))
+    (λ e.
+    split (eqb (kindOf row) pointKind)
+    (λ d. absurd (rw (e, d) at t))
+    (λ d.
+    split (eqb (formOf row) list)
+    (λ f. absurd (rw (e, d, f) at t))
+    (λ f. record { used = λ v. rw f refl; rule = λ v line. rw (e, d, f) refl })))
 
 head-unruled : (i : ℕ) → i < firstPhase → NoRule (0 + i)
-unfolding unruled kindOf pick
+unfolding unruled formOf kindOf pick
 head-unruled i h = no-rule (0 + i) (at (λ (k : ℕ). unruled (0 + k)) firstPhase tt i h)
 
-middle-unruled : (i : ℕ) → i < between → NoRule (afterPhases + i)
-unfolding unruled kindOf pick
-middle-unruled i h = no-rule (afterPhases + i) (at (λ (k : ℕ). unruled (afterPhases + k)) between tt i h)
+track-unruled : (i : ℕ) → i < 1 → NoRule (afterPhases + i)
+unfolding unruled formOf kindOf pick
+track-unruled i h = no-rule (afterPhases + i) (at (λ (k : ℕ). unruled (afterPhases + k)) 1 tt i h)
+
+single-unruled : (i : ℕ) → i < singles → NoRule (firstSingle + i)
+unfolding unruled formOf kindOf pick
+single-unruled i h = no-rule (firstSingle + i) (at (λ (k : ℕ). unruled (firstSingle + k)) singles tt i h)
 
 module _ (s : Sheet) (h : Sound s) where
   head-ranges : Plain (flatOf s) firstPhase 0
@@ -233,10 +302,14 @@ module _ (s : Sheet) (h : Sound s) where
   head-ranges =
       ((h .issue, tt), ((vehicle-range (s .vehicle), tt), ((h .grade, tt), ((up-to (h .l01), tt), ((h .l02, tt), ((h .«phase_count», tt), tt))))))
 
-  middle-ranges : Plain (flatOf s) between afterPhases
+  track-ranges : Plain (flatOf s) 1 afterPhases
   unfolding flatOf numbersFrom placeOf widthOf rangesOf kindOf
-  middle-ranges =
-      ((h .«track_yellow», (up-to (h .«track_red»), tt)), ((up-to (h .l18), tt), ((h .l19, tt), ((h .l20, tt), ((up-to (h .l28), tt), ((h .l30, tt), ((up-to (h .l31), tt), ((up-to (h .l33), tt), ((h .l37, tt), ((up-to (h .l39), tt), ((up-to (h .l47), tt), ((h .l56, tt), ((h .l57, tt), ((up-to (h .l58), tt), ((h .«point_count», tt), tt)))))))))))))))
+  track-ranges = ((h .«track_yellow», (up-to (h .«track_red»), tt)), tt)
+
+  single-ranges : Plain (flatOf s) singles firstSingle
+  unfolding flatOf numbersFrom placeOf widthOf rangesOf kindOf
+  single-ranges =
+      ((up-to (h .l18), tt), ((h .l19, tt), ((h .l20, tt), ((up-to (h .l28), tt), ((h .l30, tt), ((up-to (h .l31), tt), ((up-to (h .l33), tt), ((h .l37, tt), ((up-to (h .l39), tt), ((up-to (h .l47), tt), ((h .l56, tt), ((h .l57, tt), ((up-to (h .l58), tt), ((h .«point_count», tt), tt))))))))))))))
 
 no-rows : (v : List ℕ) (row : ℕ) → FineFrom v 0 row
 unfolding faultFrom
@@ -246,8 +319,11 @@ lines-fine : (s : Sheet) → Shaped s → Sound s → linesFault (flatOf s) ≡ 
 lines-fine s shaped h =
     let v = flatOf s in
     let points : FineFrom v mostPoints firstPoint = block v mostPoints 0 mostPoints firstPoint refl (point-row s shaped h) (no-rows v rowCount) in
+    let single : FineFrom v (singles + mostPoints) firstSingle =
+    block v singles mostPoints (singles + mostPoints) firstSingle refl (plain v singles firstSingle single-unruled (single-ranges s h)) points in
+    let dwell : FineFrom v (1 + (singles + mostPoints)) (rowFor "dwell") = next v (singles + mostPoints) (rowFor "dwell") (dwell-row s shaped h) single in
     let middle : FineFrom v (between + mostPoints) afterPhases =
-    block v between mostPoints (between + mostPoints) afterPhases refl (plain v between afterPhases middle-unruled (middle-ranges s h)) points in
+    block v 1 (1 + (singles + mostPoints)) (between + mostPoints) afterPhases refl (plain v 1 afterPhases track-unruled (track-ranges s h)) dwell in
     let phases : FineFrom v (mostPhases + (between + mostPoints)) firstPhase =
     block v mostPhases (between + mostPoints) (mostPhases + (between + mostPoints)) firstPhase refl (phase-row s shaped h) middle in
     let head : FineFrom v rowCount 0 =

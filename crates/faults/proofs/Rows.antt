@@ -12,7 +12,7 @@ use Rattle.units.specs.Numbers.{pick}
 use Rattle.units.proofs.Steps.{both-left, both-right}
 use Rattle.sheet.specs.declared.Answer.the-variants.{Fine}
 use Rattle.sheet.proofs.Answers.{both-fine, passes}
-use Rattle.rows.specs.Table.{Range, _to_, inRange, inRanges, rangesOf, placeOf, present}
+use Rattle.rows.specs.Table.{Range, _to_, inRange, inRanges, usedRanges, placeOf, present}
 use Rattle.faults.specs.Lines.{ruleFault, rowFault, hereFault, lineAfter, faultFrom}
 use Rattle.faults.specs.Ranges.{Between}
 
@@ -54,7 +54,7 @@ fine-rows v (suc n) row line e (suc k) h p =
     let q : row + suc k ≡ row + 1 + k = omega arith in
     rw q (fine-rows v n (row + 1) (lineAfter v row line) (both-fine _ _ e .1) k (omega arith) (rw q at p))
 
-pub row-ranges : (v : List ℕ) (row : ℕ) → FineRow v row → inRanges v (placeOf row) (rangesOf row) ≡ true
+pub row-ranges : (v : List ℕ) (row : ℕ) → FineRow v row → inRanges v (placeOf row) (usedRanges v row) ≡ true
 unfolding rowFault
 row-ranges v row f =
     let each = both-fine _ _ (f .fine) in

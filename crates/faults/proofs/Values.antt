@@ -5,7 +5,7 @@ use mathlib.Core.List.{List, [], _∷_}
 use Prim.Native.Nat.{ℕ, zero, suc, _+_, _-_, _<_, _≤_, min}
 use native.Mathlib.Omega.{arith}
 use lib.Dec.{T, ltb, eqb, eqb→eq}
-use lib.ListN.{length, getD, take, drop, drop-of-length-le}
+use lib.ListN.{length, getD, take, drop, length-take, drop-of-length-le}
 use lib.Seq.{getD-take, getD-drop}
 use borrow.Author.Tests.{lt-ltb, le-ltb, ltb-true, ltb-false, ne-eqb}
 use Rattle.units.specs.Numbers.{pick, both}
@@ -19,17 +19,20 @@ use Rattle.sheet.specs.declared.Vehicle.{Vehicle}
 use Rattle.sheet.specs.declared.Vehicle.the-variants.{Car, Su, Bus, Wb50}
 use Rattle.sheet.specs.declared.Answer.{Answer}
 use Rattle.sheet.specs.declared.Answer.the-variants.{Fine, Refused}
-use Rattle.sheet.specs.declared.Refusal.the-variants.{OutOfRange, PointsDontRise}
+use Rattle.sheet.specs.declared.Refusal.the-variants.{OutOfRange, PhasesDontRise, PointsDontRise}
 use Rattle.sheet.specs.Refusals.{isFine, orElse, unless}
 use Rattle.sheet.specs.Zero.{zeroPhase, zeroPoint}
 use Rattle.sheet.specs.Entries.{nthPhase, nthPoint}
 use Rattle.sheet.proofs.Answers.{or-or, or-fine}
-use Rattle.rows.specs.Table.{Range, _to_, kindOf, rangesOf, rangeOf, widthOf, placeOf, inRange, inRanges, present, rowCount, mostPhases, mostPoints, rowFor, placeFor, firstPhase, firstPoint, phaseKind, pointKind}
-use Rattle.numbers.specs.Flat.{vehicleNumber, phaseNumbers, pointNumbers, phasePlace, pointPlace, phaseAt, pointAt, numbersFrom, flatOf}
-use Rattle.faults.specs.Lines.{phaseFault, startsAtZero, pointRises, ruleFault, rowFault, hereFault, lineAfter, faultFrom, linesFault}
+use Rattle.rows.specs.Table.{Range, _to_, kindOf, formOf, rangesOf, rangeOf, widthOf, placeOf, usedRanges, inRange, inRanges, present, rowCount, mostPhases, mostPoints, rowFor, placeFor, firstPhase, firstPoint, phaseKind, pointKind}
+use Rattle.rows.proofs.Tables.{dwell-place}
+use Rattle.numbers.specs.Flat.{vehicleNumber, phaseNumbers, pointNumbers, phasePlace, pointPlace, phaseAt, pointAt, numbersFrom, flatOf, entriesFrom}
+use Rattle.numbers.proofs.Entries.{entries-all}
+use Rattle.faults.specs.Dwell.{dwellInside, dwellLine}
+use Rattle.faults.specs.Lines.{phaseFault, startsAtZero, pointRises, risesAfter, ruleFault, rowFault, hereFault, lineAfter, faultFrom, linesFault}
 use Rattle.faults.proofs.Along.{fine-row, bad-row, no-lines, lineFrom, in-two, all-lines}
-use Rattle.faults.proofs.Sound.{phase-in, point-in, phases-at, points-at, phase-kind, phase-place, phase-present, point-kind, point-place, point-present, ranges-by, before, fitting, phase-rule, point-rule}
-use Rattle.faults.proofs.Accepted.{afterPhases, between, unruled, no-rule}
+use Rattle.faults.proofs.Sound.{phase-in, point-in, dwell-in, dwell-used, dwell-rule, phases-at, points-at, phase-kind, phase-place, phase-present, point-kind, point-place, point-present, ranges-by, used-by, before, fitting, phase-rule, point-rule}
+use Rattle.faults.proofs.Accepted.{afterPhases, between, firstSingle, singles, unruled, no-rule}
 
 -- ---- rows of one number
 
@@ -67,7 +70,8 @@ one-number v row t p =
       here = p;
       fault =
           λ line.
-          rw (no-rule row (also-left (unruled row) (eqb (widthOf row) 1) t) v line, one-range v (placeOf row) (rangesOf row) (eqb→eq (widthOf row) 1 (also-right (unruled row) (eqb (widthOf row) 1) t)))
+          let none = no-rule row (also-left (unruled row) (eqb (widthOf row) 1) t) in
+          rw (none .rule v line, none .used v, one-range v (placeOf row) (rangesOf row) (eqb→eq (widthOf row) 1 (also-right (unruled row) (eqb (widthOf row) 1) t)))
           (or-fine _);
     }
 
@@ -101,14 +105,14 @@ middle-here v i h =
     rw (le-ltb (afterPhases + i) firstPhase (omega arith), le-ltb (afterPhases + i) afterPhases (omega arith), lt-ltb (afterPhases + i) firstPoint (omega arith)) refl
 
 head-ones : (v : List ℕ) (i : ℕ) → i < firstPhase → OneNumber v (0 + i)
-unfolding oneNumber unruled widthOf rangesOf kindOf pick
+unfolding oneNumber unruled formOf widthOf rangesOf kindOf pick
 head-ones v i h = one-number v (0 + i) (at (λ (k : ℕ). oneNumber (0 + k)) firstPhase tt i h) (head-here v i h)
 
-middle-ones : (v : List ℕ) (i : ℕ) → i < between - 1 → OneNumber v (afterPhases + 1 + i)
-unfolding oneNumber unruled widthOf rangesOf kindOf pick
-middle-ones v i h =
-    let e : afterPhases + suc i ≡ afterPhases + 1 + i = omega arith in
-    one-number v (afterPhases + 1 + i) (at (λ (k : ℕ). oneNumber (afterPhases + 1 + k)) (between - 1) tt i h) (rw e at (middle-here v (suc i) (omega arith)))
+single-ones : (v : List ℕ) (i : ℕ) → i < singles → OneNumber v (firstSingle + i)
+unfolding oneNumber unruled formOf widthOf rangesOf kindOf pick
+single-ones v i h =
+    let e : afterPhases + suc (suc i) ≡ firstSingle + i = omega arith in
+    one-number v (firstSingle + i) (at (λ (k : ℕ). oneNumber (firstSingle + k)) singles tt i h) (rw e at (middle-here v (suc (suc i)) (omega arith)))
 
 vehicle-fine : (w : Vehicle) (line : ℕ) → unless (inRange (rangeOf (rowFor "vehicle") 0) (vehicleNumber w)) OutOfRange line ≡ Fine
 unfolding rangesOf kindOf inRange pick unless
@@ -131,17 +135,17 @@ head-places : (i : ℕ) → i < firstPhase → placeOf (0 + i) ≡ 0 + i
 unfolding placeOf widthOf rangesOf kindOf
 head-places i h = eqb→eq (placeOf (0 + i)) (0 + i) (at (λ (k : ℕ). eqb (placeOf (0 + k)) (0 + k)) firstPhase tt i h)
 
-middle-places : (i : ℕ) → i < between - 1 → placeOf (afterPhases + 1 + i) ≡ placeFor "l18" + i
+single-places : (i : ℕ) → i < singles → placeOf (firstSingle + i) ≡ placeFor "l18" + i
 unfolding placeOf widthOf rangesOf kindOf
-middle-places i h =
-    eqb→eq (placeOf (afterPhases + 1 + i)) (placeFor "l18" + i) (at (λ (k : ℕ). eqb (placeOf (afterPhases + 1 + k)) (placeFor "l18" + k)) (between - 1) tt i h)
+single-places i h =
+    eqb→eq (placeOf (firstSingle + i)) (placeFor "l18" + i) (at (λ (k : ℕ). eqb (placeOf (firstSingle + k)) (placeFor "l18" + k)) singles tt i h)
 
--- the numbers of the rows from the grade to the phases, and of those past the track
+-- the numbers of the rows from the grade to the phases, and of those past the list for dwell
 abbrev pub headNumbers : Sheet → List ℕ
 headNumbers s = take (firstPhase - rowFor "grade") (drop (placeFor "grade") (flatOf s))
 
-abbrev pub middleNumbers : Sheet → List ℕ
-middleNumbers s = take (between - 1) (drop (placeFor "l18") (flatOf s))
+abbrev pub singleNumbers : Sheet → List ℕ
+singleNumbers s = take singles (drop (placeFor "l18") (flatOf s))
 
 -- the rows before the phases; a vehicle is never out of its range
 pub head-values : (s : Sheet) → onesAfter (oneFault (rowFor "issue") (s .issue) 0) (headNumbers s) (rowFor "grade") ≡ faultFrom (flatOf s) firstPhase 0 1
@@ -153,24 +157,63 @@ head-values s =
     ∙ ap (λ (a : Answer). orElse issue (orElse a rest)) (sym (vehicle-fine (s .vehicle) (rowFor "vehicle" + 1)))
     ∙ ones (flatOf s) (take firstPhase (drop 0 (flatOf s))) 0 0 (omega arith) (head-ones (flatOf s)) (taken (flatOf s) 0 firstPhase 0 head-places)
 
--- the rows between the phases and the points: the track's two numbers, then rows of one
+-- the rows between the phases and the points: the track's two numbers, the list for dwell, then rows of one
 abbrev pub trackFault : Sheet → ℕ → Answer
 trackFault s absent = unless (both (inRange (rangeOf (rowFor "track") 0) (s .«track_yellow»)) (inRange (rangeOf (rowFor "track") 1) (s .«track_red»))) OutOfRange (rowFor "track" + 1 - absent)
 
 track-row : (s : Sheet) (absent : ℕ) → rowFault (flatOf s) (rowFor "track") (rowFor "track" + 1 - absent) ≡ trackFault s absent
-unfolding rowFault ruleFault inRanges flatOf numbersFrom placeOf widthOf rangesOf kindOf pick
+unfolding rowFault ruleFault inRanges flatOf numbersFrom usedRanges formOf placeOf widthOf rangesOf kindOf pick
 track-row s absent =
     let red = inRange (rangeOf (rowFor "track") 1) (s .«track_red») in
     or-fine _
     ∙ ap (λ (b : Bool). unless (both (inRange (rangeOf (rowFor "track") 0) (s .«track_yellow»)) b) OutOfRange (rowFor "track" + 1 - absent)) (last-of-both red)
 
-pub middle-values : (s : Sheet) (absent : ℕ) → absent ≤ mostPhases → orElse (trackFault s absent) (onesOf (middleNumbers s) (afterPhases + 1) absent) ≡ faultFrom (flatOf s) between afterPhases (afterPhases + 1 - absent)
+-- the line for dwell, of the array as it is
+pub dwell-line : (n : ℕ) (xs : List ℕ) (line : ℕ) → length xs ≡ mostPhases → dwellLine n xs line ≡ orElse (unless (dwellInside n xs) OutOfRange line) (unless (risesAfter 0 (take n xs)) PhasesDontRise line)
+dwell-line n xs line l =
+    ap (λ (ys : List ℕ). orElse (unless (dwellInside n xs) OutOfRange line) (unless (risesAfter 0 (take n ys)) PhasesDontRise line)) (entries-all xs mostPhases 0 l)
+
+-- ranges go by the numbers, wherever they stand
+same-ranges : (v w : List ℕ) (at there : ℕ) (rs : List Range) → ((j : ℕ) → j < length rs → getD v (at + j) 0 ≡ getD w (there + j) 0) → inRanges v at rs ≡ inRanges w there rs
+unfolding inRanges
+same-ranges v w at there [] f = refl
+same-ranges v w at there (r ∷ rs) f =
+    let a : at + 0 ≡ at = omega arith in
+    let b : there + 0 ≡ there = omega arith in
+    let here : getD v at 0 ≡ getD w there 0 = rw (a, b) at (f 0 (omega arith)) in
+    let rest = same-ranges v w (at + 1) (there + 1) rs
+    (λ j h.
+    let c : at + suc j ≡ at + 1 + j = omega arith in
+    let d : there + suc j ≡ there + 1 + j = omega arith in
+    rw (c, d) at (f (suc j) (omega arith))) in
+    λ i. pick (inRange r (here i)) (rest i) false
+
+dwell-numbers : (s : Sheet) → inRanges (flatOf s) (placeFor "dwell") (take (1 + s .«dwell_count») (rangesOf (rowFor "dwell"))) ≡ dwellInside (s .«dwell_count») (s .dwell)
+unfolding inRanges rangesOf kindOf
+dwell-numbers s =
+    let n = s .«dwell_count» in
+    let rs = drop 1 (rangesOf (rowFor "dwell")) in
+    let e : 1 + n ≡ suc n = omega arith in
+    let rest = same-ranges (flatOf s) (s .dwell) (placeFor "dwell" + 1) 0 (take n rs)
+    (λ j h.
+    let z : 0 + j ≡ j = omega arith in
+    let d : placeFor "dwell" + suc j ≡ placeFor "dwell" + 1 + j = omega arith in
+    rw (z, ← d) (dwell-in s (suc j) (omega (arith, length-take n rs)))) in
+    rw (e, dwell-in s 0 (omega arith)) (λ i. both (inRange (rangeOf (rowFor "dwell") 0) n) (rest i))
+
+dwell-row : (s : Sheet) (line : ℕ) → rowFault (flatOf s) (rowFor "dwell") line ≡ dwellLine (s .«dwell_count») (s .dwell) line
+unfolding rowFault
+dwell-row s line = rw (dwell-used s, dwell-place, dwell-numbers s, dwell-rule s line) refl
+
+pub middle-values : (s : Sheet) (absent : ℕ) → absent ≤ mostPhases
+    → orElse (trackFault s absent) (orElse (dwellLine (s .«dwell_count») (s .dwell) (rowFor "dwell" + 1 - absent)) (onesOf (singleNumbers s) firstSingle absent)) ≡ faultFrom (flatOf s) between afterPhases (afterPhases + 1 - absent)
 unfolding flatOf numbersFrom faultFrom hereFault lineAfter present pick
 middle-values s absent h =
-    let e : afterPhases + 1 - absent + 1 ≡ afterPhases + 2 - absent = omega arith in
-    rw (e, track-row s absent)
-    (ap (orElse (trackFault s absent))
-    (ones (flatOf s) (middleNumbers s) (afterPhases + 1) absent (omega arith) (middle-ones (flatOf s)) (taken (flatOf s) (placeFor "l18") (between - 1) (afterPhases + 1) middle-places)))
+    let d : afterPhases + 1 - absent + 1 ≡ rowFor "dwell" + 1 - absent = omega arith in
+    let e : rowFor "dwell" + 1 - absent + 1 ≡ firstSingle + 1 - absent = omega arith in
+    rw (d, e, track-row s absent, dwell-row s (rowFor "dwell" + 1 - absent))
+    (ap (λ (a : Answer). orElse (trackFault s absent) (orElse (dwellLine (s .«dwell_count») (s .dwell) (rowFor "dwell" + 1 - absent)) a))
+    (ones (flatOf s) (singleNumbers s) firstSingle absent (omega arith) (single-ones (flatOf s)) (taken (flatOf s) (placeFor "l18") singles firstSingle single-places)))
 
 -- what a loop along such rows keeps at row i
 module _ (xs : List ℕ) (row absent i : ℕ) where
@@ -218,12 +261,15 @@ phase-fits p = rw (last-of-both (inRange (rangeOf firstPhase 7) (p .mode))) refl
 abbrev pub phaseLine : Phase → Phase → ℕ → Answer
 phaseLine before p line = orElse (unless (phaseInside p) OutOfRange line) (phaseFault before p line)
 
+phase-used : (v : List ℕ) (i : ℕ) → i < mostPhases → usedRanges v (firstPhase + i) ≡ rangesOf firstPhase
+phase-used v i h =
+    used-by v (firstPhase + i) phaseKind (phase-kind i h) refl ∙ sym (ranges-by firstPhase phaseKind (phase-kind 0 (omega arith)))
+
 phase-row : (s : Sheet) (i line : ℕ) → i < mostPhases → rowFault (flatOf s) (firstPhase + i) line ≡ phaseLine (before s i) (nthPhase s i) line
 unfolding rowFault
 phase-row s i line h =
     let inside : inRanges (flatOf s) (phasePlace i) (rangesOf firstPhase) ≡ phaseInside (nthPhase s i) = phase-numbers (flatOf s) i ∙ ap phaseInside (phase-in s i h) in
-    let alike : rangesOf (firstPhase + i) ≡ rangesOf firstPhase = ranges-by (firstPhase + i) phaseKind (phase-kind i h) ∙ sym (ranges-by firstPhase phaseKind (phase-kind 0 (omega arith))) in
-    rw (phase-place i h, alike, inside, phase-rule s i line h) refl
+    rw (phase-place i h, phase-used (flatOf s) i h, inside, phase-rule s i line h) refl
 
 phase-absent : (v : List ℕ) (i : ℕ) → i < mostPhases → getD v (placeFor "phases") 0 ≤ i → present v (firstPhase + i) ≡ false
 unfolding present pick
@@ -291,12 +337,15 @@ point-fits p = rw (last-of-both (inRange (rangeOf firstPoint 1) (p .tenths))) re
 abbrev pub pointLine : Bool → Point → ℕ → Answer
 pointLine rises p line = orElse (unless (pointInside p) OutOfRange line) (unless rises PointsDontRise line)
 
+point-used : (v : List ℕ) (i : ℕ) → i < mostPoints → usedRanges v (firstPoint + i) ≡ rangesOf firstPoint
+point-used v i h =
+    used-by v (firstPoint + i) pointKind (point-kind i h) refl ∙ sym (ranges-by firstPoint pointKind (point-kind 0 (omega arith)))
+
 point-row : (s : Sheet) (i line : ℕ) → i < mostPoints → rowFault (flatOf s) (firstPoint + i) line ≡ pointLine (fitting s i) (nthPoint s i) line
 unfolding rowFault
 point-row s i line h =
     let inside : inRanges (flatOf s) (pointPlace i) (rangesOf firstPoint) ≡ pointInside (nthPoint s i) = point-numbers (flatOf s) i ∙ ap pointInside (point-in s i h) in
-    let alike : rangesOf (firstPoint + i) ≡ rangesOf firstPoint = ranges-by (firstPoint + i) pointKind (point-kind i h) ∙ sym (ranges-by firstPoint pointKind (point-kind 0 (omega arith))) in
-    rw (point-place i h, alike, inside, point-rule s i line h) refl
+    rw (point-place i h, point-used (flatOf s) i h, inside, point-rule s i line h) refl
 
 point-absent : (v : List ℕ) (i : ℕ) → getD v (placeFor "points") 0 ≤ i → present v (firstPoint + i) ≡ false
 unfolding present pick

@@ -1,4 +1,5 @@
 pub mod Lines
+pub mod Dwell
 pub mod Whole
 pub mod Ranges
 pub mod First

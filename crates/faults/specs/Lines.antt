@@ -1,8 +1,9 @@
 -- Refusals 2 to 6, of a line: "The first faulty line in file order decides, and on one line the lowest number."
 use Prim.Native.Nat.{ℕ, zero, suc, _+_, _-_}
 use mathlib.Core.Bool.{Bool, true, false}
-use mathlib.Core.List.{List}
+use mathlib.Core.List.{List, [], _∷_}
 use lib.Dec.{leb, ltb, eqb}
+use lib.ListN.{getD, take, drop}
 use Rattle.units.specs.Numbers.{pick, both}
 use Rattle.sheet.specs.declared.Phase.{Phase}
 use Rattle.sheet.specs.declared.Point.{Point}
@@ -11,7 +12,7 @@ use Rattle.sheet.specs.declared.Answer.the-variants.{Fine}
 use Rattle.sheet.specs.declared.Refusal.the-variants.{OutOfRange, PhasesDontRise, PointsDontRise, PedestriansInModeZero, ClearanceTooShort}
 use Rattle.sheet.specs.Refusals.{orElse, unless}
 use Rattle.sheet.specs.Zero.{zeroPhase}
-use Rattle.rows.specs.Table.{kindOf, rangesOf, placeOf, inRanges, present, phaseKind, pointKind, firstPhase, firstPoint, rowCount}
+use Rattle.rows.specs.Table.{list, kindOf, formOf, widthOf, placeOf, usedRanges, inRanges, present, phaseKind, pointKind, firstPhase, firstPoint, rowCount}
 use Rattle.numbers.specs.Flat.{phaseAt, pointAt}
 
 -- 5: "mode 0 with walk or clearance above 0"
@@ -42,16 +43,26 @@ beforePhase v i = pick (eqb i 0) zeroPhase (phaseAt v (i - 1))
 unfoldable pub pointFits : List ℕ → ℕ → Bool
 pointFits v i = pick (eqb i 0) (startsAtZero (pointAt v i)) (pointRises (pointAt v (i - 1)) (pointAt v i))
 
--- what a phase or a point line must keep besides its ranges
+-- the numbers of a list, which are as many as it counts
+abbrev pub listAt : List ℕ → ℕ → List ℕ
+listAt v row = take (getD v (placeOf row) 0) (take (widthOf row - 1) (drop (placeOf row + 1) v))
+
+-- "3 when the numbers don't rise": each is above the one before, the first above 0
+unfoldable pub risesAfter : ℕ → List ℕ → Bool
+risesAfter x [] = true
+risesAfter x (y ∷ ys) = pick (ltb x y) (risesAfter y ys) false
+
+-- what a phase line, a point line or a list must keep besides its ranges
 unfoldable pub ruleFault : List ℕ → ℕ → ℕ → Answer
 ruleFault v row line =
     pick (eqb (kindOf row) phaseKind) (phaseFault (beforePhase v (row - firstPhase)) (phaseAt v (row - firstPhase)) line)
-    (pick (eqb (kindOf row) pointKind) (unless (pointFits v (row - firstPoint)) PointsDontRise line) Fine)
+    (pick (eqb (kindOf row) pointKind) (unless (pointFits v (row - firstPoint)) PointsDontRise line)
+    (pick (eqb (formOf row) list) (unless (risesAfter 0 (listAt v row)) PhasesDontRise line) Fine))
 
 -- a row of the numbers v, on that line of the text. 2: "a value is out of range"
 unfoldable pub rowFault : List ℕ → ℕ → ℕ → Answer
 rowFault v row line =
-    orElse (unless (inRanges v (placeOf row) (rangesOf row)) OutOfRange line) (ruleFault v row line)
+    orElse (unless (inRanges v (placeOf row) (usedRanges v row)) OutOfRange line) (ruleFault v row line)
 
 -- a row that the text has is a line of it; one past its count is none, and has no fault
 unfoldable pub hereFault : List ℕ → ℕ → ℕ → Answer

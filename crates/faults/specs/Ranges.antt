@@ -1,15 +1,17 @@
 -- What an accepted sheet keeps, and that a sheet which keeps it is accepted.
 use Prim.Native.Nat.{ℕ, _+_, _≤_, _<_}
 use mathlib.Core.Path.{_≡_}
+use mathlib.Core.Bool.{true}
+use lib.ListN.{getD}
 use Rattle.units.specs.Lists.{All}
 use Rattle.sheet.specs.declared.Phase.{Phase}
 use Rattle.sheet.specs.declared.Point.{Point}
 use Rattle.sheet.specs.declared.Sheet.{Sheet}
 use Rattle.sheet.specs.declared.Answer.the-variants.{Fine}
-use Rattle.sheet.specs.Entries.{Shaped, listedPhases, listedPoints, nthPhase, nthPoint}
+use Rattle.sheet.specs.Entries.{Shaped, listedPhases, listedPoints, dwellNumbers, named, nthPhase, nthPoint}
 use Rattle.transfer.specs.Promises.{WithinSixteen}
 use Rattle.numbers.specs.Flat.{gradeNumber}
-use Rattle.faults.specs.Whole.{leastWarning, line48, lastPoint, acceptOf}
+use Rattle.faults.specs.Whole.{leastWarning, line48, lastPoint, listedIn, acceptOf}
 
 pub record Between (least x most : ℕ) : Type 0 where
   pub low : least ≤ x
@@ -43,6 +45,10 @@ pub record Sound (s : Sheet) : Type 0 where
   pub rising : (i : ℕ) → i + 1 < s .«phase_count» → nthPhase s i .number < nthPhase s (i + 1) .number
   pub «track_yellow» : Between 30 (s .«track_yellow») 60
   pub «track_red» : s .«track_red» ≤ 60
+  pub «dwell_count» : s .«dwell_count» ≤ 8
+  pub dwell : All (λ (n : ℕ). Between 1 n 8) (dwellNumbers s)
+  -- not refused 3: each is above the one before
+  pub climbing : (i : ℕ) → i + 1 < s .«dwell_count» → getD (s .dwell) i 0 < getD (s .dwell) (i + 1) 0
   pub l18 : s .l18 ≤ 400
   pub l19 : Between 1 (s .l19) 400
   pub l20 : Between 1 (s .l20) 150
@@ -62,11 +68,12 @@ pub record Sound (s : Sheet) : Type 0 where
   pub start : (nthPoint s 0 .feet ≡ 0) × (nthPoint s 0 .tenths ≡ 0)
   pub further : (i : ℕ) → i + 1 < s .«point_count» → nthPoint s i .feet < nthPoint s (i + 1) .feet
   pub slower : (i : ℕ) → i + 1 < s .«point_count» → nthPoint s i .tenths ≤ nthPoint s (i + 1) .tenths
-  -- not refused 7 to 10
+  -- not refused 7 to 10, not refused 12
   pub storage : s .l47 ≤ s .l18
   pub warning : leastWarning (s .l19) ≤ s .l31
   pub distance : line48 s ≤ lastPoint s
   pub track : WithinSixteen (listedPhases s) (s .«track_yellow») (s .«track_red»)
+  pub dwellListed : (n : ℕ) → named s n ≡ true → listedIn (listedPhases s) n ≡ true
 
 -- an accepted sheet keeps all of this
 abbrev pub AcceptedIsSound : Type 0
@@ -76,6 +83,6 @@ AcceptedIsSound = (s : Sheet) → acceptOf s ≡ Fine → Sound s
 abbrev pub SoundIsAccepted : Type 0
 SoundIsAccepted = (s : Sheet) → Shaped s → Sound s → acceptOf s ≡ Fine
 
--- so one of 2 to 10 is "given exactly when" it does not
+-- so one of 2 to 10 or 12 is "given exactly when" it does not
 abbrev pub AcceptedWhenSound : Type 0
 AcceptedWhenSound = AcceptedIsSound × SoundIsAccepted

@@ -1,7 +1,13 @@
 // What is wrong with one row of the numbers: refusals 2 to 6, the lowest first.
 ghost use mathlib.Core.Path.{_≡_};
 ghost use Prim.Native.Nat.{_-_};
-ghost use Rattle.faults.specs.Lines.{beforePhase, pointFits, ruleFault, rowFault};
+ghost use lib.Dec.{eqb};
+ghost use Rattle.units.specs.Numbers.{pick};
+ghost use Rattle.sheet.specs.declared.Answer.the-variants.{Fine};
+ghost use Rattle.sheet.specs.declared.Refusal.the-variants.{PhasesDontRise};
+ghost use Rattle.sheet.specs.Refusals.{unless};
+ghost use Rattle.rows.specs.Table.{list, formOf};
+ghost use Rattle.faults.specs.Lines.{beforePhase, pointFits, listAt, risesAfter, ruleFault, rowFault};
 use sheet::Answer;
 use sheet::Phase;
 use sheet::Refusal;
@@ -30,6 +36,26 @@ fn point_fits(numbers: &[u32; rows::NUMBERS], i: usize) -> bool
     entry_rules::point_fits(i, before, entries::point_at(numbers, i))
 }
 
+// The numbers of a row that is a list rise. They are taken by value, since what is lent does not tell its length.
+fn list_rises(numbers: [u32; rows::NUMBERS], row: usize) -> bool
+    requires { ⌜ formOf row ≡ list ⌝ }
+    ensures { λ r. ⌜ r ≡ risesAfter 0 (listAt numbers row) ⌝ }
+{
+    let at = places::place(row);
+    let list = entries::list_at(&numbers, row);
+    entry_rules::rises(list, numbers[at])
+}
+
+fn list_fault(numbers: &[u32; rows::NUMBERS], row: usize, line: u32) -> Answer
+    ensures { λ r. ⌜ r ≡ pick (eqb (formOf row) list) (unless (risesAfter 0 (listAt (now (numbers .entry)) row)) PhasesDontRise line) Fine ⌝ }
+{
+    let key = rows::facts(row);
+    if key.2 == rows::LIST {
+        return answers::refuse_unless(list_rises(*numbers, row), Refusal::PhasesDontRise, line);
+    }
+    Answer::Fine
+}
+
 fn rule_fault(numbers: &[u32; rows::NUMBERS], row: usize, line: u32) -> Answer
     ensures { λ r. ⌜ r ≡ ruleFault (now (numbers .entry)) row line ⌝ }
 {
@@ -49,7 +75,7 @@ fn rule_fault(numbers: &[u32; rows::NUMBERS], row: usize, line: u32) -> Answer
             line,
         );
     }
-    Answer::Fine
+    list_fault(numbers, row, line)
 }
 
 // The fault of a row of the numbers, on that line of the text.

@@ -1,11 +1,12 @@
-// What is wrong with a sheet on the whole: refusals 7 to 10.
+// What is wrong with a sheet on the whole: refusals 7 to 10 and 12.
 ghost use mathlib.Core.Path.{_≡_};
 ghost use Prim.Native.Nat.{_+_, _-_};
 ghost use lib.Dec.{leb};
-ghost use lib.ListN.{getD};
+ghost use lib.ListN.{getD, take};
 ghost use Rattle.sheet.specs.Zero.{zeroPoint};
-ghost use Rattle.faults.specs.Whole.{leastWarning, wholeFault};
+ghost use Rattle.faults.specs.Whole.{leastWarning, listedIn, allListed, wholeFault};
 use sheet::Answer;
+use sheet::Phase;
 use sheet::Point;
 use sheet::Refusal;
 use sheet::Sheet;
@@ -37,20 +38,57 @@ fn reached(points: [Point; 16], count: u32, l19: u32, l20: u32, l47: u32) -> boo
     l19 as u64 + l20 as u64 + l47 as u64 <= last as u64
 }
 
-// The first of refusals 7 to 10.
+// A phase of that number is among the first `count`.
+fn listed(phases: [Phase; 8], count: u32, number: u32) -> bool
+    ensures { λ r. ⌜ r ≡ listedIn (take count phases) number ⌝ }
+{
+    let n = units::smaller(count as u64, 8) as usize;
+    let mut i: usize = 0;
+    while i < n {
+        if phases[i].number == number {
+            return true;
+        }
+        i += 1;
+    }
+    false
+}
+
+// Of each of the first `named` numbers for dwell.
+fn all_listed(phases: [Phase; 8], count: u32, dwell: [u32; 8], named: u32) -> bool
+    ensures { λ r. ⌜ r ≡ allListed (take count phases) (take named dwell) ⌝ }
+{
+    let n = units::smaller(named as u64, 8) as usize;
+    let mut i: usize = 0;
+    while i < n {
+        if listed(phases, count, dwell[i]) {
+            i += 1;
+        } else {
+            return false;
+        }
+    }
+    true
+}
+
+// The first of refusals 7 to 10 and 12.
 pub fn whole_fault(s: Sheet) -> Answer
     ensures { λ r. ⌜ r ≡ wholeFault s ⌝ }
 {
     let points = s.points;
     let phases = s.phases;
+    let dwell = s.dwell;
     let storage = answers::refuse_unless(s.l47 <= s.l18, Refusal::RelocationBeyondStorage, 0);
     let warning = answers::refuse_unless(warned(s.l19, s.l31), Refusal::WarningTooShort, 0);
     let far = reached(points, s.point_count, s.l19, s.l20, s.l47);
     let distance = answers::refuse_unless(far, Refusal::BeyondLastPoint, 0);
     let fits = right_of_way::track_fits(phases, s.phase_count, s.track_yellow, s.track_red);
     let track = answers::refuse_unless(fits, Refusal::TrackLongerThanTransfer, 0);
+    let listed = all_listed(phases, s.phase_count, dwell, s.dwell_count);
+    let named = answers::refuse_unless(listed, Refusal::DwellPhaseNotListed, 0);
     answers::or_else(
         storage,
-        answers::or_else(warning, answers::or_else(distance, track)),
+        answers::or_else(
+            warning,
+            answers::or_else(distance, answers::or_else(track, named)),
+        ),
     )
 }

@@ -13,11 +13,8 @@ Inv-loop absent points n before₀ i₀ before i = (i ≤ n) × PointsLeft point
 abbrev μ-loop : tie.MeasureT-loop
 μ-loop absent points n before₀ i₀ before i = n - i
 
-cast-smaller : tie.Need-cast-smaller Inv-loop μ-loop
-cast-smaller c = search needs
-
-smaller-requires : tie.Need-smaller-requires Inv-loop μ-loop
-smaller-requires c κs = search needs
+listed-points-requires : tie.Need-listed-points-requires Inv-loop μ-loop
+listed-points-requires c κs = search needs
 
 zero-point-requires : tie.Need-zero-point-requires Inv-loop μ-loop
 zero-point-requires c κs = search needs
@@ -46,15 +43,15 @@ loop-less c = search needs
 
 loop-again : tie.Need-loop-again Inv-loop μ-loop
 loop-again c =
-    (omega arith, points-next (c .before .before .before .before .before .before .before .before .before .before .args .s .points) (c .before .before .before .before .before .before .before .smaller .result) (c .before .before .before .before .before .before .before .before .before .before .args .absent) (c .before .before .before .before .before .loop .before) (c .before .before .before .before .before .loop .i) _ (c .before .before .point-line .result) (c .before .before .before .before .before .loop .inv .1) (omega arith) (c .before .before .before .before .before .before .before .before .before .before .pre) refl (c .before .before .point-line .ensures) (sym (c .before .is-fine .ensures) ∙ c .if1 .taken))
+    (omega arith, points-next (c .before .before .before .before .before .before .before .before .before .args .s .points) (c .before .before .before .before .before .before .before .listed-points .result) (c .before .before .before .before .before .before .before .before .before .args .absent) (c .before .before .before .before .before .loop .before) (c .before .before .before .before .before .loop .i) _ (c .before .before .point-line .result) (c .before .before .before .before .before .loop .inv .1) (omega arith) (c .before .before .before .before .before .before .before .before .before .pre) refl (c .before .before .point-line .ensures) (sym (c .before .is-fine .ensures) ∙ c .if1 .taken))
 
 returns : tie.Need-returns Inv-loop μ-loop
 returns c =
-    points-stop (c .before .before .before .before .before .before .before .before .before .before .args .s .points) (c .before .before .before .before .before .before .before .smaller .result) (c .before .before .before .before .before .before .before .before .before .before .args .absent) (c .before .before .before .before .before .loop .before) (c .before .before .before .before .before .loop .i) _ (c .before .before .point-line .result) (c .before .before .before .before .before .loop .inv .1) (omega arith) (c .before .before .before .before .before .before .before .before .before .before .pre) refl (c .before .before .point-line .ensures) (sym (c .before .is-fine .ensures) ∙ c .if1 .left) (c .before .before .before .before .before .before .before .before .before .before .args .s) refl (sym (c .before .before .before .before .before .before .before .smaller .ensures))
+    points-stop (c .before .before .before .before .before .before .before .before .before .args .s .points) (c .before .before .before .before .before .before .before .listed-points .result) (c .before .before .before .before .before .before .before .before .before .args .absent) (c .before .before .before .before .before .loop .before) (c .before .before .before .before .before .loop .i) _ (c .before .before .point-line .result) (c .before .before .before .before .before .loop .inv .1) (omega arith) (c .before .before .before .before .before .before .before .before .before .pre) refl (c .before .before .point-line .ensures) (sym (c .before .is-fine .ensures) ∙ c .if1 .left) (c .before .before .before .before .before .before .before .before .before .args .s) refl (sym (c .before .before .before .before .before .before .before .listed-points .ensures))
 
 returns-2 : tie.Need-returns-2 Inv-loop μ-loop
 returns-2 c =
-    points-end (c .before .before .before .before .before .before .args .s .points) (c .before .before .before .smaller .result) (c .before .before .before .before .before .before .args .absent) (c .before .loop .before) (c .before .loop .i) (c .before .loop .inv .1) (omega arith) (c .before .before .before .before .before .before .args .s) refl (sym (c .before .before .before .smaller .ensures))
+    points-end (c .before .before .before .before .before .args .s .points) (c .before .before .before .listed-points .result) (c .before .before .before .before .before .args .absent) (c .before .loop .before) (c .before .loop .i) (c .before .loop .inv .1) (omega arith) (c .before .before .before .before .before .args .s) refl (sym (c .before .before .before .listed-points .ensures))
 
 pub points-fault-spec : {M : Type 1} → statement M
 points-fault-spec =
@@ -62,8 +59,7 @@ points-fault-spec =
     (tie.spec
     Inv-loop
     μ-loop
-    cast-smaller
-    smaller-requires
+    listed-points-requires
     zero-point-requires
     loop-holds
     mul-p

@@ -5,7 +5,7 @@ use lib.ListN.{length, drop}
 use Rattle.rows.specs.Table.{firstPoint}
 use Rattle.sheet.specs.declared.Answer.the-variants.{Refused}
 use Rattle.sheet.specs.declared.Refusal.the-variants.{OutOfRange}
-use Rattle.faults.proofs.Accepted.{afterPhases}
+use Rattle.faults.proofs.Accepted.{firstSingle}
 use Rattle.faults.proofs.Values.{onesOf, ones-next, ones-stop, ones-end}
 use borrow.Author.Needs.{needs}
 use native.Mathlib.Omega.{arith}
@@ -13,10 +13,10 @@ use Rattle.accept.proofs.singles_fault.Statement.{statement}
 use Rattle.accept.proofs.singles_fault.Tie as tie
 
 abbrev Inv-loop : tie.InvT-loop
-Inv-loop absent numbers i₀ i = onesOf (drop i numbers) (afterPhases + 1 + i) absent ≡ onesOf numbers (afterPhases + 1) absent
+Inv-loop absent numbers i₀ i = onesOf (drop i numbers) (firstSingle + i) absent ≡ onesOf numbers firstSingle absent
 
 abbrev μ-loop : tie.MeasureT-loop
-μ-loop absent numbers i₀ i = firstPoint - (afterPhases + 1) - i
+μ-loop absent numbers i₀ i = firstPoint - firstSingle - i
 
 loop-holds : tie.Need-loop-holds Inv-loop μ-loop
 loop-holds c =
@@ -42,8 +42,8 @@ loop-less c = search needs
 
 loop-again : tie.Need-loop-again Inv-loop μ-loop
 loop-again c =
-    let long : length (c .before .before .before .before .args .t1) ≡ firstPoint - (afterPhases + 1) = search needs in
-    sym (ones-next (c .before .before .before .before .args .t1) (afterPhases + 1) (c .before .before .before .before .args .absent) (c .before .before .before .loop .i) (omega (arith, long)) (sym (c .before .fits2 .ensures) ∙ c .if1 .taken)) ∙ c .before .before .before .loop .inv
+    let long : length (c .before .before .before .before .args .t1) ≡ firstPoint - firstSingle = search needs in
+    sym (ones-next (c .before .before .before .before .args .t1) firstSingle (c .before .before .before .before .args .absent) (c .before .before .before .loop .i) (omega (arith, long)) (sym (c .before .fits2 .ensures) ∙ c .if1 .taken)) ∙ c .before .before .before .loop .inv
 
 add-line-of : tie.Need-add-line-of Inv-loop μ-loop
 add-line-of c = search needs
@@ -53,14 +53,14 @@ line-of-requires c κs = search needs
 
 returns : tie.Need-returns Inv-loop μ-loop
 returns c =
-    let long : length (c .before .before .before .before .before .args .t1) ≡ firstPoint - (afterPhases + 1) = search needs in
+    let long : length (c .before .before .before .before .before .args .t1) ≡ firstPoint - firstSingle = search needs in
     ap (Refused OutOfRange) (c .line-of .ensures)
-    ∙ sym (ones-stop (c .before .before .before .before .before .args .t1) (afterPhases + 1) (c .before .before .before .before .before .args .absent) (c .before .before .before .before .loop .i) (omega (arith, long)) (sym (c .before .before .fits2 .ensures) ∙ c .before .if1 .left)) ∙ c .before .before .before .before .loop .inv
+    ∙ sym (ones-stop (c .before .before .before .before .before .args .t1) firstSingle (c .before .before .before .before .before .args .absent) (c .before .before .before .before .loop .i) (omega (arith, long)) (sym (c .before .before .fits2 .ensures) ∙ c .before .if1 .left)) ∙ c .before .before .before .before .loop .inv
 
 returns-2 : tie.Need-returns-2 Inv-loop μ-loop
 returns-2 c =
-    let long : length (c .before .before .args .t1) ≡ firstPoint - (afterPhases + 1) = search needs in
-    sym (ones-end (c .before .before .args .t1) (afterPhases + 1) (c .before .before .args .absent) (c .before .loop .i) (omega (arith, long))) ∙ c .before .loop .inv
+    let long : length (c .before .before .args .t1) ≡ firstPoint - firstSingle = search needs in
+    sym (ones-end (c .before .before .args .t1) firstSingle (c .before .before .args .absent) (c .before .loop .i) (omega (arith, long))) ∙ c .before .loop .inv
 
 pub singles-fault-spec : {M : Type 1} → statement M
 singles-fault-spec =

@@ -1,5 +1,5 @@
 -- `row_fault::rule_fault` meets its contract: by the kind of the row. Assumes nothing.
-use mathlib.Core.Path.{_≡_, _∙_, sym, ap, refl}
+use mathlib.Core.Path.{_≡_, _∙_, sym, ap}
 use Rattle.units.proofs.Steps.{pick-yes, pick-not}
 use borrow.Author.Tests.{eq-eqb, ne-eqb}
 use Prim.Native.Nat.{_-_}
@@ -51,10 +51,14 @@ returns-2 c =
     pick-not _ _ _ _ (ne-eqb _ _ (λ e. c .before .before .before .before .if1 .left (c .before .before .before .before .before .kind .ensures ∙ e)))
     (pick-yes _ _ _ _ (eq-eqb _ _ (sym (c .before .before .before .before .before .kind .ensures) ∙ c .before .before .before .if2 .taken)) (c .refuse-unless .ensures ∙ λ i. unless (f i) PointsDontRise (c .before .before .before .before .before .before .args .line)))
 
+list-fault-requires : tie.Need-list-fault-requires
+list-fault-requires c κs = search needs
+
 returns-3 : tie.Need-returns-3
 unfolding ruleFault
 returns-3 c =
-    pick-not _ _ _ _ (ne-eqb _ _ (λ e. c .before .if1 .left (c .before .before .kind .ensures ∙ e))) (pick-not _ _ _ _ (ne-eqb _ _ (λ e. c .if2 .left (c .before .before .kind .ensures ∙ e))) refl)
+    pick-not _ _ _ _ (ne-eqb _ _ (λ e. c .before .before .if1 .left (c .before .before .before .kind .ensures ∙ e)))
+    (pick-not _ _ _ _ (ne-eqb _ _ (λ e. c .before .if2 .left (c .before .before .before .kind .ensures ∙ e))) (c .list-fault .ensures))
 
 pub rule-fault-spec : {M : Type 1} → statement M
 rule-fault-spec =
@@ -70,4 +74,5 @@ rule-fault-spec =
     point-fits-requires
     refuse-unless-requires
     returns-2
+    list-fault-requires
     returns-3)

@@ -1,4 +1,4 @@
--- `whole_fault::whole_fault` meets its contract: the four in order. Assumes nothing.
+-- `whole_fault::whole_fault` meets its contract: the five in order. Assumes nothing.
 use mathlib.Core.Path.{refl}
 use borrow.Author.Needs.{needs}
 use Rattle.faults.specs.Whole.{wholeFault}
@@ -26,6 +26,12 @@ track-fits-requires c κs = search needs
 refuse-unless-requires-4 : tie.Need-refuse-unless-requires-4
 refuse-unless-requires-4 c κs = search needs
 
+all-listed-requires : tie.Need-all-listed-requires
+all-listed-requires c κs = search needs
+
+refuse-unless-requires-5 : tie.Need-refuse-unless-requires-5
+refuse-unless-requires-5 c κs = search needs
+
 or-else-requires : tie.Need-or-else-requires
 or-else-requires c κs = search needs
 
@@ -35,20 +41,26 @@ or-else-requires-2 c κs = search needs
 or-else-requires-3 : tie.Need-or-else-requires-3
 or-else-requires-3 c κs = search needs
 
+or-else-requires-4 : tie.Need-or-else-requires-4
+or-else-requires-4 c κs = search needs
+
 returns : tie.Need-returns
 unfolding wholeFault
 returns c =
     rw (
-      c .or-else3 .ensures,
-      c .before .or-else2 .ensures,
-      c .before .before .or-else .ensures,
-      c .before .before .before .refuse-unless4 .ensures,
-      c .before .before .before .before .track-fits .ensures,
-      c .before .before .before .before .before .refuse-unless3 .ensures,
-      c .before .before .before .before .before .before .reached .ensures,
-      c .before .before .before .before .before .before .before .refuse-unless2 .ensures,
-      c .before .before .before .before .before .before .before .before .warned .ensures,
-      c .before .before .before .before .before .before .before .before .before .refuse-unless .ensures,
+      c .or-else4 .ensures,
+      c .before .or-else3 .ensures,
+      c .before .before .or-else2 .ensures,
+      c .before .before .before .or-else .ensures,
+      c .before .before .before .before .refuse-unless5 .ensures,
+      c .before .before .before .before .before .all-listed .ensures,
+      c .before .before .before .before .before .before .refuse-unless4 .ensures,
+      c .before .before .before .before .before .before .before .track-fits .ensures,
+      c .before .before .before .before .before .before .before .before .refuse-unless3 .ensures,
+      c .before .before .before .before .before .before .before .before .before .reached .ensures,
+      c .before .before .before .before .before .before .before .before .before .before .refuse-unless2 .ensures,
+      c .before .before .before .before .before .before .before .before .before .before .before .warned .ensures,
+      c .before .before .before .before .before .before .before .before .before .before .before .before .refuse-unless .ensures,
     ) refl
 
 pub whole-fault-spec : {M : Type 1} → statement M
@@ -62,7 +74,10 @@ whole-fault-spec =
     refuse-unless-requires-3
     track-fits-requires
     refuse-unless-requires-4
+    all-listed-requires
+    refuse-unless-requires-5
     or-else-requires
     or-else-requires-2
     or-else-requires-3
+    or-else-requires-4
     returns)
