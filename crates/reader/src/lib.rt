@@ -2,19 +2,20 @@
 ghost use mathlib.Core.Path.{_≡_};
 ghost use Prim.Native.Nat.{ℕ, _+_, _-_, _≤_, _<_};
 ghost use mathlib.Core.List.{List};
-ghost use mathlib.Core.Bool.{true};
+ghost use mathlib.Core.Bool.{true, false};
+ghost use lib.Dec.{eqb};
 ghost use lib.ListN.{length, take};
-ghost use Rattle.rows.specs.Table.{plain, rowCount, numberCount, rangeOf, widthOf, placeOf};
+ghost use Rattle.rows.specs.Table.{plain, list, rowCount, numberCount, rangeOf, widthOf, placeOf};
 ghost use Rattle.faults.specs.Lines.{rowFault};
-ghost use Rattle.figures.specs.declared.Figure.the-variants.{Is};
 ghost use Rattle.figures.specs.Figures.{onPlace, afterAt};
-ghost use Rattle.text.specs.Line.{wordAt, fieldAt, soFar, bad, fields, ended};
+ghost use Rattle.text.specs.Line.{soFar, bad, fields, listCount, listEnd, listFields, valuesAt, ended};
 ghost use Rattle.text.specs.Read.{step, judgedAt, endAt, linesFrom, reply, readOf};
 use figures::Figure;
 use figures::Place;
 use rows::Key;
 use rows::NUMBERS;
 use rows::ROWS;
+use rows::table;
 use sheet::Answer;
 use sheet::Refusal;
 use sheet::Sheet;
@@ -30,38 +31,6 @@ pub struct Found {
 pub struct Reached {
     pub answer: Answer,
     pub next: usize,
-}
-
-// The number x where the word w stands at a place, and what the other words gave elsewhere.
-fn named(s: &[u8], at: usize, w: &[u8], x: u32, other: Figure) -> Figure
-    ensures { λ r. ⌜ r ≡ onPlace (afterAt (now (s .entry)) at (now (w .entry))) (λ p. Is x p) other ⌝ }
-{
-    match words::after(s, at, w) {
-        Place::At(p) => Figure::Is(x, p),
-        Place::Nowhere => other,
-    }
-}
-
-// A vehicle's word, by its number.
-fn word(s: &[u8], at: usize) -> Figure
-    ensures { λ r. ⌜ r ≡ wordAt (now (s .entry)) at ⌝ }
-{
-    let d = named(s, at, b"wb50", 3, Figure::Bad);
-    let c = named(s, at, b"bus", 2, d);
-    let b = named(s, at, b"su", 1, c);
-    named(s, at, b"car", 0, b)
-}
-
-fn field(s: &[u8], at: usize, form: usize) -> Figure
-    ensures { λ r. ⌜ r ≡ fieldAt (now (s .entry)) at form ⌝ }
-{
-    if form == rows::WORDED {
-        return word(s, at);
-    }
-    if form == rows::SIGNED {
-        return digits::signed(s, at);
-    }
-    digits::number(s, at)
 }
 
 // The place past the first n letters of a key. No key has less than three, and where the text is long enough for all of them they are compared without
@@ -139,7 +108,7 @@ fn fields(s: &[u8], at: usize, form: usize, place: usize, n: usize, v: &mut [u32
             good: false,
             next: 0,
         },
-        Place::At(q) => match field(s, q, form) {
+        Place::At(q) => match field::field(s, q, form) {
             Figure::Bad => Found {
                 good: false,
                 next: 0,
@@ -150,6 +119,88 @@ fn fields(s: &[u8], at: usize, form: usize, place: usize, n: usize, v: &mut [u32
             }
         },
     }
+}
+
+// How many numbers a list has of which k were read, the first of them x: 0 stands for none only when it is alone.
+fn count(k: usize, x: u32) -> u32
+    requires { ⌜ k ≤ numberCount ⌝ }
+    ensures { λ r. ⌜ r ≡ listCount k x ⌝ }
+{
+    if k == 1 {
+        if x == 0 {
+            return 0;
+        }
+        return 1;
+    }
+    k as u32
+}
+
+// A list that is over after k numbers, at that place of the text. How many they are is stored before them.
+fn counted(next: usize, place: usize, k: usize, v: &mut [u32; NUMBERS]) -> Found
+    requires { ⌜ (place + 1 < numberCount) × (k ≤ numberCount) ⌝ }
+    ensures { λ r. ⌜ soFar (r .good) (r .next) (now (v .exit)) ≡ listEnd place k next (now (v .entry)) ⌝ }
+{
+    let x = v[place + 1];
+    let c = count(k, x);
+    v[place] = c;
+    Found {
+        good: true,
+        next: next,
+    }
+}
+
+// The numbers of a list after its first, at most n in all. Where no comma follows the list is over.
+fn listed(s: &[u8], at: usize, place: usize, n: usize, v: &mut [u32; NUMBERS]) -> Found
+    requires { ⌜ (place + 1 + n ≤ numberCount) × (1 ≤ n) ⌝ }
+    ensures { λ r. ⌜ soFar (r .good) (r .next) (now (v .exit)) ≡ listFields (now (s .entry)) place (n - 1) 1 at (now (v .entry)) ⌝ }
+{
+    let mut p = at;
+    let mut k: usize = 1;
+    while k < n {
+        match words::after(s, p, b",") {
+            Place::Nowhere => {
+                return counted(p, place, k, v);
+            }
+            Place::At(q) => match digits::number(s, q) {
+                Figure::Bad => {
+                    return Found {
+                        good: false,
+                        next: 0,
+                    };
+                }
+                Figure::Is(x, t) => {
+                    let e = place + 1 + k;
+                    v[e] = x;
+                    p = t;
+                }
+            },
+        }
+        k = k + 1;
+    }
+    counted(p, place, k, v)
+}
+
+// A list of at most n numbers, stored after their count. The first is read as that of a line of one number.
+fn list(s: &[u8], at: usize, place: usize, n: usize, v: &mut [u32; NUMBERS]) -> Found
+    requires { ⌜ (place + 1 + n ≤ numberCount) × (1 ≤ n) ⌝ }
+    ensures { λ r. ⌜ soFar (r .good) (r .next) (now (v .exit)) ≡ listFields (now (s .entry)) place n 0 at (now (v .entry)) ⌝ }
+{
+    let first = fields(s, at, table::PLAIN, place + 1, 1, v);
+    if first.good {
+        return listed(s, first.next, place, n, v);
+    }
+    first
+}
+
+// The numbers of a line by its form, stored from a place on. A list has its count there first, which the text does not say.
+fn values(s: &[u8], at: usize, form: usize, place: usize, n: usize, v: &mut [u32; NUMBERS]) -> Found
+    requires { ⌜ (place + n ≤ numberCount) × (1 ≤ n) × (1 < n → eqb form list ≡ false → form ≡ plain) × (eqb form list ≡ true → 2 ≤ n) ⌝ }
+    ensures { λ r. ⌜ soFar (r .good) (r .next) (now (v .exit)) ≡ valuesAt (now (s .entry)) form place n at (now (v .entry)) ⌝ }
+{
+    if form == rows::LIST {
+        return list(s, at, place, n - 1, v);
+    }
+    fields(s, at, form, place, n, v)
 }
 
 // What was read of a line, once its line feed is seen.
@@ -175,8 +226,8 @@ fn ended(s: &[u8], found: Found) -> Found
 
 // The line of a key at a place of the text, with n numbers.
 fn line(s: &[u8], at: usize, facts: Key, place: usize, n: usize, v: &mut [u32; NUMBERS]) -> Found
-    requires { ⌜ (at ≤ length (now s)) × (3 ≤ facts .1) × (facts .1 ≤ 8) × (place + n ≤ numberCount) × (1 ≤ n) × (1 < n → facts .2 ≡ plain) ⌝ }
-    ensures { λ r. ⌜ (soFar (r .good) (r .next) (now (v .exit)) ≡ onPlace (afterAt (now (s .entry)) at (take (facts .1) (facts .0))) (λ p. ended (now (s .entry)) (fields (now (s .entry)) (facts .2) place n 0 p (now (v .entry)))) (bad (now (v .entry)))) × (r .good ≡ true → r .next ≤ length (now (s .entry))) ⌝ }
+    requires { ⌜ (at ≤ length (now s)) × (3 ≤ facts .1) × (facts .1 ≤ 8) × (place + n ≤ numberCount) × (1 ≤ n) × (1 < n → eqb (facts .2) list ≡ false → facts .2 ≡ plain) × (eqb (facts .2) list ≡ true → 2 ≤ n) ⌝ }
+    ensures { λ r. ⌜ (soFar (r .good) (r .next) (now (v .exit)) ≡ onPlace (afterAt (now (s .entry)) at (take (facts .1) (facts .0))) (λ p. ended (now (s .entry)) (valuesAt (now (s .entry)) (facts .2) place n p (now (v .entry)))) (bad (now (v .entry)))) × (r .good ≡ true → r .next ≤ length (now (s .entry))) ⌝ }
 {
     let letters = facts.0;
     let form = facts.2;
@@ -186,7 +237,7 @@ fn line(s: &[u8], at: usize, facts: Key, place: usize, n: usize, v: &mut [u32; N
             next: 0,
         },
         Place::At(p) => {
-            let found = fields(s, p, form, place, n, v);
+            let found = values(s, p, form, place, n, v);
             ended(s, found)
         }
     }
@@ -299,7 +350,7 @@ fn reply(answer: Answer, s: Sheet) -> Reading
     }
 }
 
-// Refusals 1 to 6 line by line, then 7 to 10 on the whole.
+// Refusals 1 to 6 line by line, then 7 to 10 and 12 on the whole.
 fn begun(text: &[u8]) -> Reading
     ensures { λ r. ⌜ r ≡ readOf (now (text .entry)) ⌝ }
 {

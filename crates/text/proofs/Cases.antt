@@ -1,12 +1,12 @@
 -- One law for each case of what a text is read as, at a place of the text. Assumes nothing.
 use Prim.Native.Nat.{ℕ, suc, _+_, _-_, _≤_, _<_}
-use mathlib.Core.Path.{_≡_, refl, ap, _∙_}
+use mathlib.Core.Path.{_≡_, refl, sym, ap, _∙_}
 use mathlib.Core.List.{List}
 use mathlib.Core.Bool.{Bool, true, false}
 use native.Mathlib.Omega.{arith}
 use lib.ListN.{length, getD, set, replicate, drop-of-length-le}
 use lib.Dec.{ltb, eqb}
-use borrow.Author.Tests.{le-ltb, ltb-true, ltb-false}
+use borrow.Author.Tests.{le-ltb, ltb-true, ltb-false, ne-eqb}
 use Rattle.units.specs.Numbers.{pick}
 use Rattle.units.proofs.Steps.{split, never}
 use Rattle.units.proofs.Walk.{rest-at}
@@ -20,12 +20,22 @@ use Rattle.rows.specs.Table.{bytes, plain, rowCount, numberCount, keyOf, presen
 use Rattle.rows.specs.Marks.{markOf, lineFeed}
 use Rattle.numbers.specs.Flat.{sheetOf}
 use Rattle.faults.specs.Lines.{lineAfter}
+use Rattle.figures.specs.declared.Figure.{Figure}
 use Rattle.figures.specs.declared.Figure.the-variants.{Bad, Is}
 use Rattle.figures.specs.declared.Place.{Place}
 use Rattle.figures.specs.declared.Place.the-variants.{Nowhere, At}
 use Rattle.figures.specs.Figures.{onPlace, numberAt, after, afterAt}
-use Rattle.text.specs.Line.{fieldAt, bad, good, fields, lineAt}
+use Rattle.text.specs.Line.{Taken, fieldAt, bad, good, fields, listEnd, listFields, lineAt}
 use Rattle.text.specs.Read.{Step, malformed, judgedAt, endAt, hereAt, linesFrom, linesOf, reply, readOf}
+
+-- a place and a figure by cases, with the equation
+pub byPlace : {X : Type 0} (p : Place) → (p ≡ Nowhere → X) → ((q : ℕ) → p ≡ At q → X) → X
+byPlace Nowhere f g = f refl
+byPlace (At q) f g = g q refl
+
+pub byFigure : {X : Type 0} (n : Figure) → (n ≡ Bad → X) → ((v q : ℕ) → n ≡ Is v q → X) → X
+byFigure Bad f g = f refl
+byFigure (Is v q) f g = g v q refl
 
 -- the numbers of a line, from number j on
 module _ (s : List ℕ) (form place n j p : ℕ) (v : List ℕ) where
@@ -75,6 +85,63 @@ module _ (s : List ℕ) (form place n p : ℕ) (v : List ℕ) (q : ℕ) where
   first-step x t h f a b =
       let e : suc (n - 1) ≡ n = omega arith in
       rest-plain s form place n t (set v place x) f ∙ (rw e at (step-on (n - 1) x t a b))
+
+-- the numbers of a list, from number k on
+module _ (s : List ℕ) (place n k p : ℕ) (v : List ℕ) where
+  pub list-end : n ≤ k → listFields s place (n - k) k p v ≡ listEnd place k p v
+  unfolding listFields
+  list-end h = let e : n - k ≡ 0 = omega arith in rw e
+
+  pub list-over : 1 ≤ k → k < n → afterAt s p (markOf k) ≡ Nowhere → listFields s place (n - k) k p v ≡ listEnd place k p v
+  unfolding listFields pick
+  list-over o h a = let e : n - k ≡ suc (n - (k + 1)) = omega arith in rw (e, a, ne-eqb k 0 (λ z. omega arith))
+
+  module _ (q : ℕ) where
+    pub list-no-number : k < n → afterAt s p (markOf k) ≡ At q → numberAt s q ≡ Bad → listFields s place (n - k) k p v ≡ bad v
+    unfolding listFields
+    list-no-number h a b = let e : n - k ≡ suc (n - (k + 1)) = omega arith in rw (e, a, b)
+
+    pub list-step : (x t : ℕ) → k < n → afterAt s p (markOf k) ≡ At q → numberAt s q ≡ Is x t
+        → listFields s place (n - k) k p v ≡ listFields s place (n - (k + 1)) (k + 1) t (set v (place + 1 + k) x)
+    unfolding listFields
+    list-step x t h a b = let e : n - k ≡ suc (n - (k + 1)) = omega arith in rw (e, a, b)
+
+-- the first number of a list, which must stand, is read as that of a line of one number
+module _ (s : List ℕ) (place n p : ℕ) (v : List ℕ) (t : Taken) (first : t ≡ fields s plain (place + 1) 1 0 p v) where
+  one-number : (q x r : ℕ) → afterAt s p (markOf 0) ≡ At q → numberAt s q ≡ Is x r → fields s plain (place + 1) 1 0 p v ≡ good r (set v (place + 1 + 0) x)
+  unfolding fields fieldAt pick
+  one-number q x r a b = rw (a, b)
+
+  no-mark : afterAt s p (markOf 0) ≡ Nowhere → fields s plain (place + 1) 1 0 p v ≡ bad v
+  unfolding fields
+  no-mark a = rw a
+
+  no-number : (q : ℕ) → afterAt s p (markOf 0) ≡ At q → numberAt s q ≡ Bad → fields s plain (place + 1) 1 0 p v ≡ bad v
+  unfolding fields fieldAt pick
+  no-number q a b = rw (a, b)
+
+  not-good : {X : Type 0} → fields s plain (place + 1) 1 0 p v ≡ bad v → t .good ≡ true → X
+  not-good e g = never (sym (ap (λ (x : Taken). x .good) (first ∙ e)) ∙ g)
+
+  too-good : {X : Type 0} (r : ℕ) (w : List ℕ) → fields s plain (place + 1) 1 0 p v ≡ good r w → t .good ≡ false → X
+  too-good r w e g = never (sym g ∙ ap (λ (x : Taken). x .good) (first ∙ e))
+
+  pub list-begun : 1 ≤ n → t .good ≡ true → listFields s place (n - 1) 1 (t .next) (t .numbers) ≡ listFields s place n 0 p v
+  list-begun h g =
+      byPlace (afterAt s p (markOf 0)) (λ a. not-good (no-mark a) g)
+      (λ q a. byFigure (numberAt s q) (λ b. not-good (no-number q a b) g)
+      (λ x r b.
+      let e : n - 0 ≡ n = omega arith in
+      ap (λ (y : Taken). listFields s place (n - 1) 1 (y .next) (y .numbers)) (first ∙ one-number q x r a b)
+      ∙ sym (rw e at (list-step s place n 0 p v q x r h a b))))
+
+  pub list-not-begun : 1 ≤ n → t .good ≡ false → t ≡ listFields s place n 0 p v
+  unfolding listFields pick
+  list-not-begun h g =
+      let m : n ≡ suc (n - 1) = omega arith in
+      byPlace (afterAt s p (markOf 0)) (λ a. first ∙ no-mark a ∙ rw (m, a))
+      (λ q a. byFigure (numberAt s q) (λ b. first ∙ no-number q a b ∙ rw (m, a, b))
+      (λ x r b. too-good r (set v (place + 1 + 0) x) (one-number q x r a b) g))
 
 pub comma : (j : ℕ) → 1 ≤ j → markOf j ≡ bytes ","
 unfolding markOf pick

@@ -7,3 +7,4 @@ pub mod Lengths
 pub mod Room
 pub mod Pieces
 pub mod Promised
+pub mod Lists

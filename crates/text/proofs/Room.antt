@@ -9,7 +9,7 @@ use borrow.Author.Tests.{ltb-true, ltb-false}
 use Rattle.units.specs.Numbers.{pick}
 use Rattle.units.proofs.Steps.{split}
 use Rattle.rows.specs.Table.{rowCount, firstPhase, mostPhases, firstPoint, mostPoints, placeFor, keyOf, formOf, rangesOf, kindOf, widthOf, present}
-use Rattle.rows.specs.Longest.{longestField, longestFields, longestRow, longestFrom, longest}
+use Rattle.rows.specs.Longest.{longestField, longestFields, mostFields, longestRow, longestFrom, longest}
 use Rattle.text.specs.Text.{rowText, hereText, textFrom}
 use Rattle.text.proofs.Lengths.{short-row}
 
@@ -78,15 +78,15 @@ module _ (v : List ℕ) where
       ∙ (λ i. longestHere v firstPhase 0 + (longestHere v mostPhases firstPhase + parts v (firstPoint - pastPhases) mostPoints pastPhases i))
 
   of-phases : longestHere v mostPhases firstPhase ≡ each 62 phases mostPhases 0
-  unfolding longestHere each longestFields longestField keyOf formOf widthOf rangesOf kindOf present pick
+  unfolding longestHere each longestFields longestField mostFields keyOf formOf widthOf rangesOf kindOf present pick
   of-phases = refl
 
   of-points : longestHere v mostPoints firstPoint ≡ each 20 points mostPoints 0
-  unfolding longestHere each longestFields longestField keyOf formOf widthOf rangesOf kindOf present pick
+  unfolding longestHere each longestFields longestField mostFields keyOf formOf widthOf rangesOf kindOf present pick
   of-points = refl
 
   of-others : longestHere v firstPhase 0 + longestHere v (firstPoint - pastPhases) pastPhases + (62 * mostPhases + 20 * mostPoints) ≡ longest
-  unfolding longestHere longestFrom longestFields longestField keyOf formOf widthOf rangesOf kindOf present pick
+  unfolding longestHere longestFrom longestFields longestField mostFields keyOf formOf widthOf rangesOf kindOf present pick
   of-others = refl
 
   pub short-by-counts : length (textFrom v rowCount 0) + (62 * mostPhases + 20 * mostPoints) ≤ longest + 62 * phases + 20 * points

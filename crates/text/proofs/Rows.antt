@@ -1,5 +1,5 @@
--- What the table says of each row's line: its key has three letters or more, it has a number, where it has more they are plain, and where it has one
--- there is no rule but its range. Assumes nothing.
+-- What the table says of each row's line: its key has three letters or more, where it has more numbers than one they are plain or a list, a list has room
+-- for one number and its count, and where a line has one number there is no rule but its range. Assumes nothing.
 use Prim.Native.Nat.{ℕ, _+_, _≤_, _<_}
 use mathlib.Core.Path.{_≡_, refl, ap, sym, _∙_}
 use mathlib.Core.Bool.{Bool, true, false}
@@ -7,7 +7,7 @@ use mathlib.Core.List.{List, [], _∷_}
 use native.Mathlib.Omega.{arith}
 use lib.Dec.{T, eqb, leb, ltb, eqb→eq, leb→le, lt→ltb}
 use lib.ListN.{length, getD}
-use borrow.Author.Tests.{le-leb, lt-leb}
+use borrow.Author.Tests.{le-leb, lt-leb, eqb-true}
 use Rattle.units.specs.Numbers.{pick}
 use Rattle.units.proofs.Steps.{split}
 use Rattle.units.proofs.Tested.{given, given-then, allBelow, at}
@@ -18,7 +18,8 @@ use Rattle.sheet.specs.Refusals.{orElse, unless}
 use Rattle.sheet.proofs.Answers.{holds, fails}
 use Rattle.rows.specs.declared.table.Key.{Key}
 use Rattle.rows.specs.Facts.{factsOf}
-use Rattle.rows.specs.Table.{Range, _to_, plain, rowCount, phaseKind, pointKind, kindOf, keyOf, formOf, rangesOf, rangeOf, widthOf, placeOf, inRange, inRanges}
+use Rattle.rows.specs.Table.{Range, _to_, plain, list, rowCount, phaseKind, pointKind, kindOf, keyOf, formOf, rangesOf, rangeOf, widthOf, placeOf, usedRanges, inRange, inRanges}
+use Rattle.rows.proofs.Tables.{list-row}
 use Rattle.faults.specs.Lines.{ruleFault, rowFault}
 
 key-long : (row : ℕ) → row < rowCount → 3 ≤ length (keyOf row)
@@ -29,17 +30,19 @@ pub facts-long : (row : ℕ) (k : Key) → k ≡ factsOf row → row < rowCount 
 unfolding factsOf
 facts-long row k e h = let l : k .1 ≡ length (keyOf row) = ap (λ (x : Key). x .1) e in omega (arith, key-long row h)
 
-pub width-some : (row : ℕ) → row < rowCount → 1 ≤ widthOf row
-unfolding widthOf rangesOf kindOf
-width-some row h = leb→le 1 (widthOf row) (at (λ (r : ℕ). leb 1 (widthOf r)) rowCount tt row h)
+abbrev either : Bool → Bool → Bool
+either a b = pick a true b
 
-pub wide-plain : (row : ℕ) → row < rowCount → 1 < widthOf row → formOf row ≡ plain
-unfolding formOf widthOf rangesOf kindOf
-wide-plain row h w =
-    eqb→eq (formOf row) plain
-    (given-then (ltb 1 (widthOf row)) (eqb (formOf row) plain)
-    (at (λ (r : ℕ). given (ltb 1 (widthOf r)) (eqb (formOf r) plain)) rowCount tt row h)
-    (lt→ltb 1 (widthOf row) w))
+pub wide-plain : (row : ℕ) → row < rowCount → 1 < widthOf row → eqb (formOf row) list ≡ false → formOf row ≡ plain
+unfolding formOf widthOf rangesOf kindOf pick
+wide-plain row h w n =
+    let t = given-then (ltb 1 (widthOf row)) (either (eqb (formOf row) list) (eqb (formOf row) plain))
+    (at (λ (r : ℕ). given (ltb 1 (widthOf r)) (either (eqb (formOf r) list) (eqb (formOf r) plain))) rowCount tt row h)
+    (lt→ltb 1 (widthOf row) w) in
+    eqb→eq (formOf row) plain (rw n at t)
+
+pub list-wide : (row : ℕ) → eqb (formOf row) list ≡ true → 2 ≤ widthOf row
+list-wide row e = omega (arith, list-row row (eqb-true (formOf row) list e) .width)
 
 -- ---- a line of one number
 
@@ -66,9 +69,12 @@ no-point : (row : ℕ) → row < rowCount → widthOf row ≡ 1 → eqb (kindOf 
 unfolding widthOf rangesOf kindOf pick
 no-point row h w = other pointKind tt row h w
 
+no-list : (row : ℕ) → widthOf row ≡ 1 → eqb (formOf row) list ≡ false
+no-list row w = split (eqb (formOf row) list) (λ t. absurd (omega (arith, list-wide row t, w))) (λ t. t)
+
 no-rule : (v : List ℕ) (row line : ℕ) → row < rowCount → widthOf row ≡ 1 → ruleFault v row line ≡ Fine
 unfolding ruleFault pick
-no-rule v row line h w = rw (no-phase row h w, no-point row h w) refl
+no-rule v row line h w = rw (no-phase row h w, no-point row h w, no-list row w) refl
 
 only : (rs : List Range) → length rs ≡ 1 → rs ≡ getD rs 0 (0 to 0) ∷ []
 only [] e = absurd (omega arith)
@@ -94,8 +100,8 @@ module _ (v : List ℕ) (row line : ℕ) (h : row < rowCount) (w : widthOf row �
   in-one rs e = rw (only rs e) (both-true (inRange (getD rs 0 (0 to 0)) number))
 
   one-fault : rowFault v row line ≡ unless (inRange (rangeOf row 0) number) OutOfRange line
-  unfolding rowFault widthOf
-  one-fault = rw (no-rule v row line h w, in-one (rangesOf row) w) (or-fine (unless (inRange (rangeOf row 0) number) OutOfRange line))
+  unfolding rowFault usedRanges widthOf pick
+  one-fault = rw (no-rule v row line h w, no-list row w, in-one (rangesOf row) w) (or-fine (unless (inRange (rangeOf row 0) number) OutOfRange line))
 
   module _ (least most : ℕ) (low : least ≡ rangeOf row 0 .least) (high : most ≡ rangeOf row 0 .most) where
     pub too-small : number < least → Refused OutOfRange line ≡ rowFault v row line

@@ -4,3 +4,4 @@ pub mod Digits
 pub mod Text
 pub mod Write
 pub mod Promises
+pub mod Lists

@@ -1,11 +1,11 @@
 -- The text of a sheet: for each row of the table that the sheet has, its key, its numbers and a line feed.
-use Prim.Native.Nat.{ℕ, zero, suc, _+_, _-_, _%_}
+use Prim.Native.Nat.{ℕ, zero, suc, _+_, _-_, _%_, min}
 use mathlib.Core.List.{List, [], _++_}
 use lib.ListN.{getD}
 use lib.Dec.{ltb, eqb}
 use Rattle.units.specs.Numbers.{pick}
 use Rattle.sheet.specs.declared.Sheet.{Sheet}
-use Rattle.rows.specs.Table.{rowCount, worded, signed, keyOf, formOf, placeOf, widthOf, present}
+use Rattle.rows.specs.Table.{bytes, rowCount, plain, worded, signed, list, keyOf, formOf, placeOf, widthOf, present}
 use Rattle.rows.specs.Marks.{markOf, minus, lineFeed, wordOf}
 use Rattle.numbers.specs.Flat.{flatOf}
 use Rattle.text.specs.Digits.{digits}
@@ -26,8 +26,16 @@ unfoldable pub fieldsText : ℕ → ℕ → ℕ → ℕ → List ℕ → List �
 fieldsText form place zero j v = []
 fieldsText form place (suc n) j v = markOf j ++ (fieldText form (getD v (place + j) 0) ++ fieldsText form place n (j + 1) v)
 
+-- a list: "numbers and commas between, or 0 for none". How many they are stands in v at `place`, at most `most` of them after it
+unfoldable pub listText : ℕ → ℕ → List ℕ → List ℕ
+listText place most v = pick (eqb (getD v place 0) 0) (bytes "=0") (fieldsText plain (place + 1) (min (getD v place 0) most) 0 v)
+
+-- the numbers of a line by its form, which has room for n from `place` on
+unfoldable pub valuesText : ℕ → ℕ → ℕ → List ℕ → List ℕ
+valuesText form place n v = pick (eqb form list) (listText place (n - 1) v) (fieldsText form place n 0 v)
+
 unfoldable pub rowText : ℕ → List ℕ → List ℕ
-rowText row v = keyOf row ++ (fieldsText (formOf row) (placeOf row) (widthOf row) 0 v ++ lineFeed)
+rowText row v = keyOf row ++ (valuesText (formOf row) (placeOf row) (widthOf row) v ++ lineFeed)
 
 -- the line of a row that the sheet has; one past its count has none
 unfoldable pub hereText : ℕ → List ℕ → List ℕ

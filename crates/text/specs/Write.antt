@@ -20,7 +20,7 @@ pub record Put (old new : List ℕ) (at r : ℕ) (t : List ℕ) : Type 0 where
   pub place : r ≡ at + length t
   pub bytes : new ≡ sets old at t
 
--- refusals 2 to 10, then 11: "the lent output is shorter than the text"
+-- refusals 2 to 10 and 12, then 11: "the lent output is shorter than the text"
 unfoldable pub answerTo : Sheet → ℕ → Answer
 answerTo s room = orElse (acceptOf s) (unless (leb (length (textOf s)) room) NoRoom 0)
 

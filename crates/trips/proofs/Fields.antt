@@ -13,24 +13,15 @@ use Rattle.rows.specs.Marks.{minus, words, wordOf}
 use Rattle.faults.specs.Ranges.{Between}
 use Rattle.figures.specs.declared.Figure.{Figure}
 use Rattle.figures.specs.declared.Figure.the-variants.{Bad, Is}
-use Rattle.figures.specs.declared.Place.{Place}
 use Rattle.figures.specs.declared.Place.the-variants.{Nowhere, At}
 use Rattle.figures.specs.Figures.{digitOf, number, after, numberAt, afterAt, signedAt}
 use Rattle.text.specs.Line.{namedAt, wordAt, fieldAt}
 use Rattle.figures.proofs.Small.{bad-is, number-small}
+use Rattle.text.proofs.Cases.{byPlace, byFigure}
 use Rattle.text.specs.Digits.{digits}
 use Rattle.text.specs.Text.{figures, signedText, fieldText}
 use Rattle.trips.proofs.Cuts.{Cut, cut-then, cut-same, past}
 use Rattle.trips.proofs.Figures.{number-back, number-read, after-back, after-read}
-
--- a place and a figure by cases, with the equation
-pub byPlace : {X : Type 0} (p : Place) → (p ≡ Nowhere → X) → ((q : ℕ) → p ≡ At q → X) → X
-byPlace Nowhere f g = f refl
-byPlace (At q) f g = g q refl
-
-pub byFigure : {X : Type 0} (n : Figure) → (n ≡ Bad → X) → ((v q : ℕ) → n ≡ Is v q → X) → X
-byFigure Bad f g = f refl
-byFigure (Is v q) f g = g v q refl
 
 small-mod : (x : ℕ) → x < 1000000 → x % 1000000 ≡ x
 small-mod x h = omega arith

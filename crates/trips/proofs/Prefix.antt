@@ -11,7 +11,7 @@ use borrow.Author.Tests.{ltb-false, ne-eqb}
 use Rattle.units.specs.Numbers.{pick}
 use Rattle.units.proofs.Steps.{split, never}
 use Rattle.sheet.specs.Refusals.{isFine, orElse}
-use Rattle.rows.specs.Table.{rowCount, numberCount, bytes, worded, signed, keyOf, formOf, placeOf, widthOf, present}
+use Rattle.rows.specs.Table.{rowCount, numberCount, bytes, worded, signed, list, keyOf, formOf, placeOf, widthOf, present}
 use Rattle.rows.specs.Marks.{markOf, minus, lineFeed, wordOf}
 use Rattle.numbers.specs.Flat.{sheetOf}
 use Rattle.faults.specs.Lines.{lineAfter}
@@ -19,13 +19,14 @@ use Rattle.faults.specs.Whole.{wholeFault}
 use Rattle.text.specs.Line.{Taken}
 use Rattle.text.specs.Read.{Step}
 use Rattle.figures.specs.Figures.{digitOf, more, number, after, numberAt, afterAt, signedAt}
-use Rattle.text.specs.Line.{wordAt, fieldAt, good, fields, ended, lineAt}
+use Rattle.text.specs.Line.{wordAt, fieldAt, good, fields, listFields, valuesAt, ended, lineAt}
 use Rattle.text.specs.Read.{judgedAt, endAt, onStep, hereAt, linesFrom, reply, readOf}
-use Rattle.rows.specs.Longest.{longestField, longestFields, longestRow, longestFrom, longest}
-use Rattle.text.proofs.Lengths.{short-word, short-field, mark-long}
+use Rattle.rows.specs.Longest.{longestField, longestFields, mostFields, longestRow, longestFrom, longest}
+use Rattle.text.proofs.Cases.{byPlace, byFigure}
+use Rattle.text.proofs.Lengths.{short-digits, short-word, short-field, mark-long, most-list, most-all}
 use Rattle.trips.specs.Promises.{CutIsSame}
-use Rattle.trips.proofs.Figures.{after-back}
-use Rattle.trips.proofs.Fields.{byPlace, byFigure, field-back}
+use Rattle.trips.proofs.Figures.{after-back, number-back}
+use Rattle.trips.proofs.Fields.{field-back}
 
 drop-take : (n k : ℕ) (l : List ℕ) → drop n (take (n + k) l) ≡ take k (drop n l)
 drop-take zero k l = let e : 0 + k ≡ k = omega arith in rw e
@@ -117,6 +118,29 @@ module _ (s : List ℕ) (n : ℕ) where
       rw (word-at p (markOf j) (omega (arith, mark-long j)), a, field-at q form (omega (arith, mark-long j)), b)
       (fields-at form place k (j + 1) t (set v (place + j) x) (omega (arith, mark-long j, short-field form x)))))
 
+  list-at : (place k j p : ℕ) (v : List ℕ) → p + 7 * k + 1 ≤ n → listFields c place k j p v ≡ listFields s place k j p v
+  unfolding listFields
+  list-at place zero j p v h = refl
+  list-at place (suc k) j p v h =
+      byPlace (afterAt s p (markOf j))
+      (λ a. rw (word-at p (markOf j) (omega (arith, mark-long j)), a))
+      (λ q a.
+      let e = after-back s p q (markOf j) a .place in
+      byFigure (numberAt s q)
+      (λ b. rw (word-at p (markOf j) (omega (arith, mark-long j)), a, number-at q (omega (arith, mark-long j)), b))
+      (λ x t b.
+      let f = number-back s q x t b .place in
+      rw (word-at p (markOf j) (omega (arith, mark-long j)), a, number-at q (omega (arith, mark-long j)), b)
+      (list-at place k (j + 1) t (set v (place + 1 + j) x) (omega (arith, mark-long j, short-digits x)))))
+
+  values-at : (row p : ℕ) (v : List ℕ) → p + longestFields (formOf row) (mostFields row) + 1 ≤ n
+      → valuesAt c (formOf row) (placeOf row) (widthOf row) p v ≡ valuesAt s (formOf row) (placeOf row) (widthOf row) p v
+  unfolding valuesAt pick
+  values-at row p v h =
+      split (eqb (formOf row) list)
+      (λ t. rw t (list-at (placeOf row) (widthOf row - 1) 0 p v (omega (arith, most-list row t))))
+      (λ t. rw t (fields-at (formOf row) (placeOf row) (widthOf row) 0 p v (omega (arith, most-all row t))))
+
 -- ---- where a line that was read ends
 
 fields-near : (s : List ℕ) (form place k j p : ℕ) (v : List ℕ) → fields s form place k j p v .good ≡ true → fields s form place k j p v .next ≤ p + longestFields form k
@@ -132,6 +156,28 @@ fields-near s form place (suc k) j p v g =
     let f = field-back s q form x t b .place in
     let r = fields-near s form place k (j + 1) t (set v (place + j) x) (rw (a, b) at g) in
     rw (a, b) (omega (arith, mark-long j, short-field form x))))
+
+list-near : (s : List ℕ) (place k j p : ℕ) (v : List ℕ) → listFields s place k j p v .good ≡ true → listFields s place k j p v .next ≤ p + 7 * k
+unfolding listFields pick
+list-near s place zero j p v g = omega arith
+list-near s place (suc k) j p v g =
+    byPlace (afterAt s p (markOf j))
+    (λ a. split (eqb j 0) (λ b. never (rw (a, b) at g)) (λ b. rw (a, b) (omega arith)))
+    (λ q a. byFigure (numberAt s q)
+    (λ b. never (rw (a, b) at g))
+    (λ x t b.
+    let e = after-back s p q (markOf j) a .place in
+    let f = number-back s q x t b .place in
+    let r = list-near s place k (j + 1) t (set v (place + 1 + j) x) (rw (a, b) at g) in
+    rw (a, b) (omega (arith, mark-long j, short-digits x))))
+
+values-near : (s : List ℕ) (row p : ℕ) (v : List ℕ) → valuesAt s (formOf row) (placeOf row) (widthOf row) p v .good ≡ true
+    → valuesAt s (formOf row) (placeOf row) (widthOf row) p v .next ≤ p + longestFields (formOf row) (mostFields row)
+unfolding valuesAt pick
+values-near s row p v g =
+    split (eqb (formOf row) list)
+    (λ t. rw (most-list row t, t) (list-near s (placeOf row) (widthOf row - 1) 0 p v (rw t at g)))
+    (λ t. rw (most-all row t, t) (fields-near s (formOf row) (placeOf row) (widthOf row) 0 p v (rw t at g)))
 
 ended-near : (s : List ℕ) (t : Taken) (e : ℕ) → (t .good ≡ true → t .next ≤ e) → ended s t .good ≡ true → ended s t .next ≤ e + 1
 unfolding pick
@@ -149,8 +195,8 @@ line-near s at row v g =
     (λ a. never (rw a at g))
     (λ p a.
     let e = after-back s at p (keyOf row) a .place in
-    let t = fields s (formOf row) (placeOf row) (widthOf row) 0 p v in
-    let r = ended-near s t (p + longestFields (formOf row) (widthOf row)) (fields-near s (formOf row) (placeOf row) (widthOf row) 0 p v) (rw a at g) in
+    let t = valuesAt s (formOf row) (placeOf row) (widthOf row) p v in
+    let r = ended-near s t (p + longestFields (formOf row) (mostFields row)) (values-near s row p v) (rw a at g) in
     rw a (omega arith))
 
 here-near : (s : List ℕ) (at row line : ℕ) (v : List ℕ) → isFine (hereAt s at row line v .answer) ≡ true → hereAt s at row line v .next ≤ at + longestRow row
@@ -178,9 +224,9 @@ module _ (s : List ℕ) (n : ℕ) where
       (λ a. rw (word-at s n at (keyOf row) (omega arith), a))
       (λ p a.
       let e = after-back s at p (keyOf row) a .place in
-      let near = fields-near s (formOf row) (placeOf row) (widthOf row) 0 p v in
-      rw (word-at s n at (keyOf row) (omega arith), a, fields-at s n (formOf row) (placeOf row) (widthOf row) 0 p v (omega arith))
-      (ended-at (fields s (formOf row) (placeOf row) (widthOf row) 0 p v) (λ g. omega (arith, near g))))
+      let near = values-near s row p v in
+      rw (word-at s n at (keyOf row) (omega arith), a, values-at s n row p v (omega arith))
+      (ended-at (valuesAt s (formOf row) (placeOf row) (widthOf row) p v) (λ g. omega (arith, near g))))
 
   here-at : (at row line : ℕ) (v : List ℕ) → at + longestRow row ≤ n → hereAt (take n s) at row line v ≡ hereAt s at row line v
   unfolding hereAt judgedAt

@@ -2,7 +2,7 @@
 use Prim.Native.Nat.{ℕ, _≤_}
 use mathlib.Core.Path.{_≡_, refl, sym, ap, _∙_}
 use mathlib.Core.Bool.{false}
-use mathlib.Core.List.{List}
+use mathlib.Core.List.{List, [], _∷_}
 use native.Mathlib.Omega.{arith}
 use lib.ListN.{length, getD, drop}
 use lib.Dec.{leb}
@@ -14,9 +14,9 @@ use Rattle.sheet.specs.declared.Answer.{Answer}
 use Rattle.sheet.specs.declared.Answer.the-variants.{Fine, Refused}
 use Rattle.sheet.specs.declared.Refusal.the-variants.{NoRoom}
 use Rattle.sheet.specs.Refusals.{isFine, orElse, unless}
-use Rattle.sheet.specs.Zero.{zeroPhase, zeroPoint}
+use Rattle.sheet.specs.Zero.{zeroPhase, zeroPoint, zeroSheet}
 use Rattle.sheet.proofs.Answers.{both-fine, bad-or}
-use Rattle.rows.specs.Table.{rowFor, placeFor, rowCount, numberCount, kinds, rows, kindOf, rangesOf, widthOf, placeOf, present}
+use Rattle.rows.specs.Table.{rowFor, placeFor, rowCount, numberCount, kinds, rows, kindOf, formOf, rangesOf, widthOf, placeOf, usedRanges, present}
 use Rattle.numbers.specs.Flat.{numbersFrom, flatOf, sheetOf}
 use Rattle.numbers.proofs.Again.{Graded, numbers-again, sheet-again}
 use Rattle.faults.specs.Lines.{linesFault}
@@ -31,7 +31,7 @@ use Rattle.text.specs.Text.{textFrom, textOf}
 use Rattle.text.specs.Write.{answerTo, writtenOf, bytesOf}
 use Rattle.sheet.specs.Entries.{Shaped}
 use Rattle.text.proofs.Lengths.{short-text}
-use Rattle.trips.specs.Promises.{Blank, withEntries, trimmed, SheetToText, SheetToSheet, TextToText, ReadIsAccepted, WriteRefusesAlike, WrittenIsText, TextIsShort, ReadIsShort}
+use Rattle.trips.specs.Promises.{Blank, kept, withEntries, trimmed, SheetToText, SheetToSheet, TextToText, ReadIsAccepted, WriteRefusesAlike, WrittenIsText, TextIsShort, ReadIsShort}
 use Rattle.trips.proofs.Kept.{kept-long, kept-same}
 use Rattle.trips.proofs.Back.{text-back}
 use Rattle.trips.proofs.Forth.{text-read}
@@ -49,7 +49,7 @@ graded x b = (omega (arith, b .low), omega (arith, b .high))
 sheet-kept : (s : Sheet) → Shaped s → Between 999920 (getD (flatOf s) (placeFor "grade") 0) 1000080 → sheetOf (flatOf (trimmed s)) ≡ trimmed s
 unfolding trimmed flatOf
 sheet-kept s h g =
-    sheet-again (trimmed s) (kept-long zeroPhase (s .«phase_count») (s .phases) ∙ h .phases) (kept-long zeroPoint (s .«point_count») (s .points) ∙ h .points) (graded _ g)
+    sheet-again (trimmed s) (kept-long zeroPhase (s .«phase_count») (s .phases) ∙ h .phases) (kept-long 0 (s .«dwell_count») (s .dwell) ∙ h .dwell) (kept-long zeroPoint (s .«point_count») (s .points) ∙ h .points) (graded _ g)
 
 read-again : (s : Sheet) → Shaped s → acceptOf s ≡ Fine → readOf (textOf s) ≡ record { answer = Fine; sheet = trimmed s }
 unfolding acceptOf readOf reply orElse pick flatOf
@@ -65,12 +65,18 @@ read-again s h e =
 pub sheet-to-text : SheetToText
 sheet-to-text s h e = rw (read-again s h e) refl
 
+-- numbers for dwell that are not counted do not come back: of a sheet that counts none and has some
+dwell-cleared : trimmed (withEntries zeroSheet [] (8 ∷ 8 ∷ []) []) .dwell ≡ 0 ∷ 0 ∷ []
+unfolding trimmed kept
+dwell-cleared = refl
+
 blank-same : (s : Sheet) → Blank s → trimmed s ≡ s
 unfolding trimmed
 blank-same s b =
     let p = kept-same zeroPhase (s .«phase_count») (s .phases) (b .phases) in
+    let d = kept-same 0 (s .«dwell_count») (s .dwell) (b .dwell) in
     let q = kept-same zeroPoint (s .«point_count») (s .points) (b .points) in
-    λ i. withEntries s (p i) (q i)
+    λ i. withEntries s (p i) (d i) (q i)
 
 pub sheet-to-sheet : SheetToSheet
 sheet-to-sheet s h b e = sheet-to-text s h e ∙ ap (λ (x : Sheet). record { answer = Fine; sheet = x }) (blank-same s b)
@@ -84,13 +90,13 @@ reply-fine (Refused r l) s e = never (ap isFine e)
 
 -- the vehicle and the grade of numbers without a fault
 vehicle-in : (v : List ℕ) → linesFault v ≡ Fine → getD v (placeFor "vehicle") 0 ≤ 3
-unfolding present pick rangesOf kindOf placeOf widthOf
+unfolding present pick usedRanges formOf rangesOf kindOf placeOf widthOf
 vehicle-in v e =
     let b : Between 0 (getD v (placeFor "vehicle") 0) 3 = in-each v (placeOf (rowFor "vehicle")) (rangesOf (rowFor "vehicle")) (row-ranges v (rowFor "vehicle") (fine-rows v rowCount 0 1 e (rowFor "vehicle") (omega arith) refl)) 0 (omega arith) in
     b .high
 
 grade-in : (v : List ℕ) → linesFault v ≡ Fine → Graded (getD v (placeFor "grade") 0)
-unfolding present pick rangesOf kindOf placeOf widthOf
+unfolding present pick usedRanges formOf rangesOf kindOf placeOf widthOf
 grade-in v e =
     let b : Between 999920 (getD v (placeFor "grade") 0) 1000080 = in-each v (placeOf (rowFor "grade")) (rangesOf (rowFor "grade")) (row-ranges v (rowFor "grade") (fine-rows v rowCount 0 1 e (rowFor "grade") (omega arith) refl)) 0 (omega arith) in
     graded (getD v (placeFor "grade") 0) b

@@ -1,34 +1,34 @@
 -- A sheet and the same with its entries past the counts 0 have the same text and the same faults: row by row. Assumes nothing.
 use Prim.Native.Nat.{ℕ, zero, suc, _+_, _-_, _*_, _≤_, _<_}
 use mathlib.Core.Path.{_≡_, refl, sym, ap, _∙_}
-use mathlib.Core.List.{List, _++_}
-use mathlib.Core.Bool.{Bool, true}
+use mathlib.Core.List.{List, _∷_, _++_}
+use mathlib.Core.Bool.{Bool, true, false}
 use native.Mathlib.Omega.{arith}
-use lib.ListN.{getD, take, drop}
+use lib.ListN.{length, getD, take, drop}
 use lib.Seq.{getD-take, getD-drop}
-use lib.Dec.{T, ltb, leb, leb→le}
+use lib.Dec.{T, ltb, leb, eqb, leb→le, eqb→eq}
 use borrow.Author.Tests.{lt-ltb, le-ltb, ltb-true, ltb-false}
 use Rattle.units.specs.Numbers.{pick}
 use Rattle.units.proofs.Steps.{split, never}
-use Rattle.units.proofs.Tested.{also, also-left, also-right, at}
+use Rattle.units.proofs.Tested.{also, also-left, also-right, given, given-then, at}
 use Rattle.sheet.specs.declared.Sheet.{Sheet}
 use Rattle.sheet.specs.declared.Phase.{Phase}
 use Rattle.sheet.specs.declared.Point.{Point}
-use Rattle.sheet.specs.declared.Refusal.the-variants.{RelocationBeyondStorage, WarningTooShort, BeyondLastPoint, TrackLongerThanTransfer}
+use Rattle.sheet.specs.declared.Refusal.the-variants.{RelocationBeyondStorage, WarningTooShort, BeyondLastPoint, TrackLongerThanTransfer, DwellPhaseNotListed}
 use Rattle.sheet.specs.Refusals.{orElse, unless}
 use Rattle.sheet.specs.Zero.{zeroPhase, zeroPoint}
-use Rattle.rows.specs.Table.{mostPhases, mostPoints, placeFor, firstPhase, firstPoint, rowCount, kinds, rows, kindOf, rangesOf, widthOf, placeOf, present}
+use Rattle.rows.specs.Table.{mostPhases, mostPoints, rowFor, placeFor, firstPhase, firstPoint, rowCount, list, kinds, rows, kindOf, formOf, rangesOf, widthOf, placeOf, present}
 use Rattle.numbers.specs.Flat.{phasePlace, pointPlace, phaseNumbers, pointNumbers, numbersFrom, flatOf, phaseAt, pointAt}
 use Rattle.transfer.specs.Transfer.{trackFits}
 use Rattle.faults.specs.Lines.{hereFault, lineAfter, ruleFault, faultFrom}
-use Rattle.faults.specs.Whole.{leastWarning, line48, wholeFault}
-use Rattle.faults.proofs.Sound.{phase-in, point-in, phases-at, points-at, phase-kind, phase-place, point-kind, point-place}
+use Rattle.faults.specs.Whole.{leastWarning, line48, allListed, wholeFault}
+use Rattle.faults.proofs.Sound.{phase-in, point-in, dwell-in, dwell-width, phases-at, points-at, phase-kind, phase-place, point-kind, point-place}
 use Rattle.text.specs.Text.{hereText, textFrom}
-use Rattle.trips.specs.Promises.{trimmed}
+use Rattle.trips.specs.Promises.{kept, trimmed}
 use Rattle.trips.proofs.Kept.{kept-at, kept-past, kept-take}
-use Rattle.trips.proofs.Agree.{Row, row-agree, present-agree, rule-agree, fault-agree, before-agree, fits-agree, phase-row, point-row}
-use Rattle.trips.proofs.Back.{Clear, zeros-in}
-use Rattle.rows.proofs.Tables.{pastPhases}
+use Rattle.trips.proofs.Agree.{Row, used, used-all, used-list, used-few, row-agree, list-agree, present-agree, rule-agree, fault-agree, before-agree, fits-agree, phase-row, point-row}
+use Rattle.trips.proofs.Back.{Clear, held-here, held-none, zeros-in}
+use Rattle.rows.proofs.Tables.{pastPhases, dwell-place}
 
 -- ---- the rows in their four parts
 
@@ -46,18 +46,35 @@ unfolding placeOf widthOf rangesOf kindOf
 head-row row h =
     leb→le (placeOf row + widthOf row) (placeFor "phase") (at (λ (r : ℕ). leb (placeOf r + widthOf r) (placeFor "phase")) firstPhase tt row h)
 
--- the numbers between the phases and the points
-abbrev between : ℕ → Bool
-between row = also (leb (placeFor "track") (placeOf row)) (leb (placeOf row + widthOf row) (placeFor "point"))
+-- between the phases and the points stand the track, the one list, and the rows of one number
+only-list : (row : ℕ) → row < rowCount → eqb (formOf row) list ≡ true → row ≡ rowFor "dwell"
+unfolding formOf kindOf
+only-list row h t =
+    eqb→eq row (rowFor "dwell")
+    (given-then (eqb (formOf row) list) (eqb row (rowFor "dwell")) (at (λ (r : ℕ). given (eqb (formOf r) list) (eqb r (rowFor "dwell"))) rowCount tt row h) (rw t tt))
 
-middle-row : (row : ℕ) → pastPhases ≤ row → row < firstPoint → (placeFor "track" ≤ placeOf row) × (placeOf row + widthOf row ≤ placeFor "point")
-unfolding placeOf widthOf rangesOf kindOf
-middle-row row l h =
+-- the row's numbers stand from one place to another
+abbrev stands : ℕ → ℕ → ℕ → Bool
+stands row from to = also (leb from (placeOf row)) (leb (placeOf row + widthOf row) to)
+
+stood : {X : Type 0} (row from to : ℕ) → (from ≤ placeOf row → placeOf row + widthOf row ≤ to → X) → T (stands row from to) → X
+stood row from to f t =
+    f (leb→le from (placeOf row) (also-left (leb from (placeOf row)) (leb (placeOf row + widthOf row) to) t))
+    (leb→le (placeOf row + widthOf row) to (also-right (leb from (placeOf row)) (leb (placeOf row + widthOf row) to) t))
+
+abbrev onTrack : ℕ → Bool
+onTrack row = stands row (placeFor "track") (placeFor "dwell")
+
+abbrev single : ℕ → Bool
+single row = stands row (placeFor "l18") (placeFor "point")
+
+middle-row : {X : Type 0} (row : ℕ) → pastPhases ≤ row → row < firstPoint → eqb (formOf row) list ≡ false
+    → (placeFor "track" ≤ placeOf row → placeOf row + widthOf row ≤ placeFor "dwell" → X) → (placeFor "l18" ≤ placeOf row → placeOf row + widthOf row ≤ placeFor "point" → X) → X
+unfolding formOf placeOf widthOf rangesOf kindOf pick
+middle-row row l h n f g =
     let e : pastPhases + (row - pastPhases) ≡ row = omega arith in
-    let t : T (between row) = rw e at (at (λ (r : ℕ). between (pastPhases + r)) (firstPoint - pastPhases) tt (row - pastPhases) (omega arith)) in (
-      leb→le (placeFor "track") (placeOf row) (also-left (leb (placeFor "track") (placeOf row)) (leb (placeOf row + widthOf row) (placeFor "point")) t),
-      leb→le (placeOf row + widthOf row) (placeFor "point") (also-right (leb (placeFor "track") (placeOf row)) (leb (placeOf row + widthOf row) (placeFor "point")) t),
-    )
+    let t : T (pick (eqb (formOf row) list) true (pick (onTrack row) true (single row))) = rw e at (at (λ (r : ℕ). pick (eqb (formOf (pastPhases + r)) list) true (pick (onTrack (pastPhases + r)) true (single (pastPhases + r)))) (firstPoint - pastPhases) tt (row - pastPhases) (omega arith)) in
+    split (onTrack row) (λ o. stood row (placeFor "track") (placeFor "dwell") f (rw o tt)) (λ o. stood row (placeFor "l18") (placeFor "point") g (rw (n, o) at t))
 
 head-present : (v : List ℕ) (row : ℕ) → row < firstPhase → present v row ≡ true
 unfolding present pick
@@ -128,12 +145,8 @@ module _ (s : Sheet) where
       let e : take n w ≡ take n v = refl in
       sym (getD-take n w m 0 h) ∙ ap (λ (l : List ℕ). getD l m 0) e ∙ getD-take n v m 0 h
 
-  middle-same : (m : ℕ) → placeFor "track" ≤ m → m < placeFor "point" → getD w m 0 ≡ getD v m 0
-  unfolding flatOf numbersFrom trimmed
-  middle-same m l h =
-      let f = placeFor "track" in
-      let n = placeFor "point" - placeFor "track" in
-      let e : take n (drop f w) ≡ take n (drop f v) = refl in
+  stretch-same : (f n : ℕ) → take n (drop f w) ≡ take n (drop f v) → (m : ℕ) → f ≤ m → m < f + n → getD w m 0 ≡ getD v m 0
+  stretch-same f n e m l h =
       let k = m - f in
       let b : k < n = omega arith in
       let q : f + k ≡ m = omega arith in
@@ -142,6 +155,58 @@ module _ (s : Sheet) where
       ∙ ap (λ (x : List ℕ). getD x k 0) e
       ∙ (getD-take n (drop f v) k 0 b ∙ getD-drop f v k 0)
       ∙ ap (λ (i : ℕ). getD v i 0) q
+
+  track-same : (m : ℕ) → placeFor "track" ≤ m → m < placeFor "dwell" → getD w m 0 ≡ getD v m 0
+  unfolding flatOf numbersFrom trimmed
+  track-same m l h = stretch-same (placeFor "track") (placeFor "dwell" - placeFor "track") refl m l (omega arith)
+
+  later-same : (m : ℕ) → placeFor "l18" ≤ m → m < placeFor "point" → getD w m 0 ≡ getD v m 0
+  unfolding flatOf numbersFrom trimmed
+  later-same m l h = stretch-same (placeFor "l18") (placeFor "point" - placeFor "l18") refl m l (omega arith)
+
+  -- the numbers for dwell, and their count before them
+  dwell-kept : (j : ℕ) → j < 1 + s .«dwell_count» → getD (s .«dwell_count» ∷ kept 0 (s .«dwell_count») (s .dwell)) j 0 ≡ getD (s .«dwell_count» ∷ s .dwell) j 0
+  dwell-kept zero c = refl
+  dwell-kept (suc i) c = kept-at 0 (s .«dwell_count») (s .dwell) i (omega arith)
+
+  dwell-same : (j : ℕ) → j < 1 + mostPhases → j < 1 + s .«dwell_count» → getD w (placeFor "dwell" + j) 0 ≡ getD v (placeFor "dwell" + j) 0
+  unfolding trimmed
+  dwell-same j h c = dwell-in (trimmed s) j h ∙ dwell-kept j c ∙ sym (dwell-in s j h)
+
+  dwell-none : (i : ℕ) → i < mostPhases → s .«dwell_count» ≤ i → getD w (placeFor "dwell" + suc i) 0 ≡ 0
+  unfolding trimmed
+  dwell-none i h c = dwell-in (trimmed s) (suc i) (omega arith) ∙ kept-past 0 (s .«dwell_count») (s .dwell) i c
+
+  -- how many of them a sheet has
+  dwell-counted : (row : ℕ) → row < rowCount → eqb (formOf row) list ≡ true → (x : Sheet) → (placeOf row ≡ placeFor "dwell") × (widthOf row ≡ 1 + mostPhases) × (getD (flatOf x) (placeOf row) 0 ≡ x .«dwell_count»)
+  unfolding widthOf
+  dwell-counted row h t x =
+      let e = only-list row h t in
+      rw e (dwell-place, dwell-width, ap (λ (k : ℕ). getD (flatOf x) k 0) dwell-place ∙ dwell-in x 0 (omega arith))
+
+  middle-same : (row : ℕ) → row < rowCount → pastPhases ≤ row → row < firstPoint → Row row v w
+  middle-same row hr l k m g b =
+      split (eqb (formOf row) list)
+      (λ t.
+      let d = dwell-counted row hr t s in
+      let few = used-list v row t in
+      let q : placeFor "dwell" + (m - placeFor "dwell") ≡ m = omega (arith, d .0) in
+      rw q at (dwell-same (m - placeFor "dwell") (omega (arith, d .0, d .1)) (omega (arith, d .0, d .2))))
+      (λ t. middle-row row l k t
+      (λ i j. track-same m (omega arith) (omega (arith, used-few v row)))
+      (λ i j. later-same m (omega arith) (omega (arith, used-few v row))))
+
+  held-clear : (row : ℕ) → row < rowCount → (m : ℕ) → placeOf row + used w row ≤ m → m < placeOf row + widthOf row → getD w m 0 ≡ 0
+  unfolding trimmed
+  held-clear row hr m g b =
+      split (eqb (formOf row) list)
+      (λ t.
+      let d = dwell-counted row hr t (trimmed s) in
+      let few = used-list w row t in
+      let i = m - placeFor "dwell" - 1 in
+      let q : placeFor "dwell" + suc i ≡ m = omega (arith, d .0, d .1) in
+      rw q at (dwell-none i (omega (arith, d .0, d .1)) (omega (arith, d .0, d .1, d .2))))
+      (λ t. absurd (omega (arith, used-all w row t)))
 
   phase-same : (i : ℕ) → i < mostPhases → i < s .«phase_count» → phaseAt w i ≡ phaseAt v i
   unfolding trimmed
@@ -175,16 +240,22 @@ module _ (s : Sheet) where
   row-same : (row : ℕ) → row < rowCount → present v row ≡ true → Row row v w
   row-same row h a =
       by-part row h
-      (λ l m g b. head-same m (omega (arith, head-row row l)))
+      (λ l m g b. head-same m (omega (arith, head-row row l, used-few v row)))
       (λ i l e m g b.
-      let p = phase-number w i m l (rw (← e) at g) (rw (← e) at b) in
-      let q = phase-number v i m l (rw (← e) at g) (rw (← e) at b) in
+      let c : m < placeOf row + widthOf row = omega (arith, used-few v row) in
+      let p = phase-number w i m l (rw (← e) at g) (rw (← e) at c) in
+      let q = phase-number v i m l (rw (← e) at g) (rw (← e) at c) in
       p ∙ ap (λ (x : Phase). getD (phaseNumbers x) (m - (phasePlace i)) 0) (phase-same i l (counted-phase i l (rw (← e) at a))) ∙ sym q)
-      (λ l k m g b. let r = middle-row row l k in middle-same m (omega (arith, r .0)) (omega (arith, r .1)))
+      (λ l k. middle-same row h l k)
       (λ i l e m g b.
-      let p = point-number w i m l (rw (← e) at g) (rw (← e) at b) in
-      let q = point-number v i m l (rw (← e) at g) (rw (← e) at b) in
+      let c : m < placeOf row + widthOf row = omega (arith, used-few v row) in
+      let p = point-number w i m l (rw (← e) at g) (rw (← e) at c) in
+      let q = point-number v i m l (rw (← e) at g) (rw (← e) at c) in
       p ∙ ap (λ (x : Point). getD (pointNumbers x) (m - (pointPlace i)) 0) (point-same i l (counted-point i l (rw (← e) at a))) ∙ sym q)
+
+  long-same : length w ≡ length v
+  unfolding flatOf numbersFrom trimmed
+  long-same = refl
 
   rule-same : (row line : ℕ) → row < rowCount → present v row ≡ true → ruleFault w row line ≡ ruleFault v row line
   rule-same row line h a =
@@ -201,6 +272,7 @@ module _ (s : Sheet) where
       let q : firstPoint + (row - firstPoint) ≡ row = omega (arith, r .0) in
       let c = counted-point i (omega arith) (rw q a) in
       fits-agree i v w (point-same i (omega arith) c) (λ z. point-same (i - 1) (omega arith) (omega arith)))
+      (list-agree row v w long-same (row-same row h a))
 
   here-same : (row line : ℕ) → row < rowCount → (hereText row w ≡ hereText row v) × (hereFault w row line ≡ hereFault v row line)
   unfolding hereText hereFault pick
@@ -234,8 +306,9 @@ module _ (s : Sheet) where
   pub fault-same : faultFrom w rowCount 0 1 ≡ faultFrom v rowCount 0 1
   fault-same = fault-from rowCount 0 1 (omega arith)
 
-  pub clear : Clear 0 w
-  clear row z h a =
+  -- a row that the text has not
+  absent : (row : ℕ) → row < rowCount → present w row ≡ false → (m : ℕ) → placeOf row ≤ m → m < placeOf row + widthOf row → getD w m 0 ≡ 0
+  absent row h a =
       by-part row h
       (λ l. never (sym a ∙ head-present w row l))
       (λ i l e m g b.
@@ -248,12 +321,20 @@ module _ (s : Sheet) where
       let c : s .«point_count» ≤ i = rw (counts-same .1 ∙ points-at s) at n in
       point-number w i m l (rw (← e) at g) (rw (← e) at b) ∙ ap (λ (x : Point). getD (pointNumbers x) (m - (pointPlace i)) 0) (point-none i l c) ∙ zeros-in 2 (m - (pointPlace i)))
 
+  pub clear : Clear 0 w
+  clear row z h m g b =
+      split (present w row)
+      (λ a. held-clear row h m (omega (arith, held-here w row a)) b)
+      (λ a. absent row h a m (omega (arith, held-none w row a)) b)
+
   pub whole-same : 1 ≤ s .«point_count» → wholeFault (trimmed s) ≡ wholeFault s
   unfolding wholeFault trimmed
   whole-same h =
       let transfer = kept-take zeroPhase (s .«phase_count») (s .phases) in
+      let dwell = kept-take 0 (s .«dwell_count») (s .dwell) in
       let last = kept-at zeroPoint (s .«point_count») (s .points) (s .«point_count» - 1) (omega arith) in
       λ d.
       orElse (unless (leb (s .l47) (s .l18)) RelocationBeyondStorage 0)
       (orElse (unless (leb (leastWarning (s .l19)) (s .l31)) WarningTooShort 0)
-      (orElse (unless (leb (line48 s) (last d .feet)) BeyondLastPoint 0) (unless (trackFits (transfer d) (s .«track_yellow») (s .«track_red»)) TrackLongerThanTransfer 0)))
+      (orElse (unless (leb (line48 s) (last d .feet)) BeyondLastPoint 0)
+      (orElse (unless (trackFits (transfer d) (s .«track_yellow») (s .«track_red»)) TrackLongerThanTransfer 0) (unless (allListed (transfer d) (dwell d)) DwellPhaseNotListed 0))))

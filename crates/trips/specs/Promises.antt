@@ -22,9 +22,9 @@ use Rattle.text.specs.Write.{writtenOf, bytesOf}
 unfoldable pub kept : {A : Type 0} → A → ℕ → List A → List A
 kept none n xs = take n xs ++ replicate (length xs - n) none
 
--- the sheet with these phases and points in place of its own
-abbrev pub withEntries : Sheet → List Phase → List Point → Sheet
-withEntries s phases points =
+-- the sheet with these phases, these numbers for dwell and these points in place of its own
+abbrev pub withEntries : Sheet → List Phase → List ℕ → List Point → Sheet
+withEntries s phases dwell points =
     record {
       issue = s .issue;
       vehicle = s .vehicle;
@@ -35,6 +35,8 @@ withEntries s phases points =
       phases = phases;
       «track_yellow» = s .«track_yellow»;
       «track_red» = s .«track_red»;
+      «dwell_count» = s .«dwell_count»;
+      dwell = dwell;
       l18 = s .l18;
       l19 = s .l19;
       l20 = s .l20;
@@ -53,7 +55,8 @@ withEntries s phases points =
     }
 
 unfoldable pub trimmed : Sheet → Sheet
-trimmed s = withEntries s (kept zeroPhase (s .«phase_count») (s .phases)) (kept zeroPoint (s .«point_count») (s .points))
+trimmed s =
+    withEntries s (kept zeroPhase (s .«phase_count») (s .phases)) (kept 0 (s .«dwell_count») (s .dwell)) (kept zeroPoint (s .«point_count») (s .points))
 
 -- sheet to text to sheet: the text of an accepted sheet is read as that sheet; "reading leaves them 0"
 abbrev pub SheetToText : Type 0
@@ -62,6 +65,7 @@ SheetToText = (s : Sheet) → Shaped s → acceptOf s ≡ Fine → readOf (textO
 -- the entries past the counts are 0
 pub record Blank (s : Sheet) : Type 0 where
   pub phases : (i : ℕ) → s .«phase_count» ≤ i → getD (s .phases) i zeroPhase ≡ zeroPhase
+  pub dwell : (i : ℕ) → s .«dwell_count» ≤ i → getD (s .dwell) i 0 ≡ 0
   pub points : (i : ℕ) → s .«point_count» ≤ i → getD (s .points) i zeroPoint ≡ zeroPoint
 
 -- so it is the same sheet where they are 0 already
@@ -72,11 +76,11 @@ SheetToSheet = (s : Sheet) → Shaped s → Blank s → acceptOf s ≡ Fine → 
 abbrev pub TextToText : Type 0
 TextToText = (t : List ℕ) (s : Sheet) → readOf t ≡ record { answer = Fine; sheet = s } → textOf s ≡ t
 
--- what a text gives is accepted as values too: "A sheet handed over as values .. meets 2 to 10 again"
+-- what a text gives is accepted as values too: "A sheet handed over as values .. meets 2 to 10 again", and 12
 abbrev pub ReadIsAccepted : Type 0
 ReadIsAccepted = (t : List ℕ) → readOf t .answer ≡ Fine → acceptOf (readOf t .sheet) ≡ Fine
 
--- "meets 2 to 10 again .. before 11"
+-- "meets 2 to 10 again .. before 11"; 12 too, which is "after 10"
 abbrev pub WriteRefusesAlike : Type 0
 WriteRefusesAlike = (s : Sheet) (room : ℕ) → isFine (acceptOf s) ≡ false → writtenOf s room .answer ≡ acceptOf s
 

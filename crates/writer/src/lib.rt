@@ -1,13 +1,14 @@
 // Writes a site sheet as its text.
 ghost use mathlib.Core.Path.{_≡_};
 ghost use mathlib.Core.List.{[], _∷_};
-ghost use Prim.Native.Nat.{_+_, _≤_, _<_};
-ghost use lib.Dec.{leb};
+ghost use mathlib.Core.Bool.{true};
+ghost use Prim.Native.Nat.{_+_, _≤_, _<_, min};
+ghost use lib.Dec.{leb, eqb};
 ghost use lib.ListN.{length, take};
-ghost use Rattle.rows.specs.Table.{rowCount, numberCount};
+ghost use Rattle.rows.specs.Table.{list, rowCount, numberCount};
 ghost use Rattle.rows.specs.Marks.{markOf, wordOf};
 ghost use Rattle.text.specs.Digits.{digits};
-ghost use Rattle.text.specs.Text.{signedText, fieldText, fieldsText, rowText, textFrom};
+ghost use Rattle.text.specs.Text.{signedText, fieldText, fieldsText, listText, valuesText, rowText, textFrom};
 ghost use Rattle.text.specs.Write.{Put, writtenOf, bytesOf};
 use longest::LONGEST;
 use rows::NUMBERS;
@@ -133,7 +134,7 @@ fn put_fields(
     n: usize,
     numbers: &[u32; NUMBERS],
 ) -> usize
-    requires { ⌜ (place + n ≤ numberCount) × (at ≤ 9000) ⌝ }
+    requires { ⌜ (place + n ≤ numberCount) × (at ≤ 8900) ⌝ }
     ensures { λ r. ⌜ Put (now (out .entry)) (now (out .exit)) at r (fieldsText form place n 0 (now (numbers .entry))) ⌝ }
 {
     let mut p = at;
@@ -147,6 +148,52 @@ fn put_fields(
     p
 }
 
+fn wide(x: u32) -> usize
+    ensures { λ r. ⌜ (r ≡ x) × (r < 4294967296) ⌝ }
+{
+    x as usize
+}
+
+fn at_most(count: usize, most: usize) -> usize
+    ensures { λ r. ⌜ r ≡ min count most ⌝ }
+{
+    if count < most {
+        return count;
+    }
+    most
+}
+
+// A list of at most that many numbers, whose count stands before them; 0 for none.
+fn put_list(out: &mut [u8], at: usize, place: usize, most: usize, numbers: &[u32; NUMBERS]) -> usize
+    requires { ⌜ (place + 1 + most ≤ numberCount) × (at ≤ 8900) ⌝ }
+    ensures { λ r. ⌜ Put (now (out .entry)) (now (out .exit)) at r (listText place most (now (numbers .entry))) ⌝ }
+{
+    let count = wide(numbers[place]);
+    if count == 0 {
+        return put_word(out, at, b"=0");
+    }
+    let n = at_most(count, most);
+    put_fields(out, at, table::PLAIN, place + 1, n, numbers)
+}
+
+// The numbers of a line by its form, which has room for n from a place on.
+fn put_values(
+    out: &mut [u8],
+    at: usize,
+    form: usize,
+    place: usize,
+    n: usize,
+    numbers: &[u32; NUMBERS],
+) -> usize
+    requires { ⌜ (place + n ≤ numberCount) × (eqb form list ≡ true → 2 ≤ n) × (at ≤ 8900) ⌝ }
+    ensures { λ r. ⌜ Put (now (out .entry)) (now (out .exit)) at r (valuesText form place n (now (numbers .entry))) ⌝ }
+{
+    if form == rows::LIST {
+        return put_list(out, at, place, n - 1, numbers);
+    }
+    put_fields(out, at, form, place, n, numbers)
+}
+
 // The line of a row.
 fn put_line(out: &mut [u8], at: usize, row: usize, numbers: &[u32; NUMBERS]) -> usize
     requires { ⌜ (row < rowCount) × (at ≤ 8000) ⌝ }
@@ -158,7 +205,7 @@ fn put_line(out: &mut [u8], at: usize, row: usize, numbers: &[u32; NUMBERS]) -> 
     let place = places::place(row);
     let n = places::width(row);
     let p = put_key(out, at, letters, facts.1);
-    let q = put_fields(out, p, form, place, n, numbers);
+    let q = put_values(out, p, form, place, n, numbers);
     put(out, q, 10)
 }
 
@@ -177,12 +224,6 @@ fn put_lines(out: &mut [u8], numbers: &[u32; NUMBERS]) -> usize
         }
     }
     p
-}
-
-fn wide(x: u32) -> usize
-    ensures { λ r. ⌜ (r ≡ x) × (r < 4294967296) ⌝ }
-{
-    x as usize
 }
 
 // The output has room for the text. Where it has room for the longest text with as many phases and points, nothing is counted; else a run over none of

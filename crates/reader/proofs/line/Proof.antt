@@ -16,9 +16,9 @@ enum-told c = search needs
 enum-known-p : tie.Need-enum-known-p
 enum-known-p c = search needs
 
-fields-requires : tie.Need-fields-requires
-fields-requires c κs =
-    (c .before .before .before .before .before .before .before .pre .3, c .before .before .before .before .before .before .before .pre .4, c .before .before .before .before .before .before .before .pre .5)
+values-requires : tie.Need-values-requires
+values-requires c κs =
+    (c .before .before .before .before .before .before .before .pre .3, c .before .before .before .before .before .before .before .pre .4, c .before .before .before .before .before .before .before .pre .5, c .before .before .before .before .before .before .before .pre .6)
 
 ended-requires : tie.Need-ended-requires
 ended-requires c κs = search needs
@@ -29,9 +29,9 @@ returns c =
 
 returns-2 : tie.Need-returns-2
 returns-2 c =
-    (rw (sym (c .before .before .before .before .before .before .key .ensures) ∙ c .before .before .before .before .p .given .1) (c .ended .ensures .0 (c .before .fields .last .1 .1 .1 .1 .1 .0) ∙ ap (λ (t : Taken). ended (c .before .before .before .before .before .before .before .before .before .args .s .now) t) (c .before .fields .ensures)), c .ended .ensures .1)
+    (rw (sym (c .before .before .before .before .before .before .key .ensures) ∙ c .before .before .before .before .p .given .1) (c .ended .ensures .0 (c .before .values .last .1 .1 .1 .1 .1 .0) ∙ ap (λ (t : Taken). ended (c .before .before .before .before .before .before .before .before .before .args .s .now) t) (c .before .values .ensures)), c .ended .ensures .1)
 
 pub line-spec : {M : Type 1} → statement M
 line-spec =
     tie.close
-    (tie.spec key-requires enum-told enum-known-p fields-requires ended-requires returns returns-2)
+    (tie.spec key-requires enum-told enum-known-p values-requires ended-requires returns returns-2)

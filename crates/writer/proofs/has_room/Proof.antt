@@ -6,7 +6,7 @@ use lib.Dec.{leb}
 use lib.ListN.{length}
 use borrow.Author.Tests.{le-leb}
 use Rattle.units.specs.Numbers.{pick}
-use Rattle.rows.specs.Longest.{longestFrom, longestFields, longestField}
+use Rattle.rows.specs.Longest.{longestFrom, longestFields, longestField, mostFields}
 use Rattle.rows.specs.Table.{rowCount, keyOf, formOf, widthOf, rangesOf, kindOf}
 use Rattle.text.specs.Text.{textFrom}
 use Rattle.text.proofs.Puts.{put-none}
@@ -45,7 +45,7 @@ add-if1-2 c =
     omega (arith, c .before .before .wide .ensures .1, c .wide2 .ensures .1)
 
 returns : tie.Need-returns
-unfolding longestFrom longestFields longestField pick keyOf formOf widthOf rangesOf kindOf
+unfolding longestFrom longestFields longestField mostFields pick keyOf formOf widthOf rangesOf kindOf
 returns c =
     let fits : length (textFrom (c .before .before .before .before .before .before .args .numbers .now) rowCount 0) ≤ length (c .before .before .before .before .before .before .args .out .now) = omega (arith, short-by-counts (c .before .before .before .before .before .before .args .numbers .now), c .before .before .before .wide .ensures .0, c .before .wide2 .ensures .0) in
     (sym (le-leb _ _ fits), refl)

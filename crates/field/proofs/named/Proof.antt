@@ -1,8 +1,8 @@
--- `reader::named` meets its contract: by whether the word stands there. Assumes nothing.
+-- `field::named` meets its contract: by whether the word stands there. Assumes nothing.
 use borrow.Author.Needs.{needs}
 use mathlib.Core.Path.{sym, _∙_}
-use Rattle.reader.proofs.named.Statement.{statement}
-use Rattle.reader.proofs.named.Tie as tie
+use Rattle.field.proofs.named.Statement.{statement}
+use Rattle.field.proofs.named.Tie as tie
 
 after-requires : tie.Need-after-requires
 after-requires c κs = search needs

@@ -1,10 +1,10 @@
--- `reader::word` meets its contract: the words in order. Assumes nothing.
+-- `field::word` meets its contract: the words in order. Assumes nothing.
 use borrow.Author.Needs.{needs}
 use Rattle.rows.specs.Table.{bytes}
 use Rattle.rows.specs.Marks.{words}
 use Rattle.text.specs.Line.{wordAt}
-use Rattle.reader.proofs.word.Statement.{statement}
-use Rattle.reader.proofs.word.Tie as tie
+use Rattle.field.proofs.word.Statement.{statement}
+use Rattle.field.proofs.word.Tie as tie
 
 slice-aggregate-named : tie.Need-slice-aggregate-named
 slice-aggregate-named c = search needs
