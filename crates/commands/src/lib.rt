@@ -1,6 +1,6 @@
 // What a command makes of the stage, and whether it is allowed now.
 ghost use mathlib.Core.Path.{_≡_};
-ghost use Rattle.stage.specs.Commands.{allowedIn, allowedAt, allowed, next, ended, obeyed};
+ghost use Rattle.stage.specs.Commands.{mayStart, allowedIn, allowedAt, allowed, home, next, ended, obeyed};
 use phase::Light;
 use phase::Walker;
 use sheet::Sheet;
@@ -9,8 +9,18 @@ use stage::Place;
 use stage::Stage;
 use stage::Then;
 
-fn allowed_in(sheet: Sheet, phase: u32, next: u32) -> bool
-    ensures { λ r. ⌜ r ≡ allowedIn sheet phase next ⌝ }
+// A phase may start: a listed one in normal operation, a named one in dwell.
+fn may_start(sheet: Sheet, place: Place, number: u32) -> bool
+    ensures { λ r. ⌜ r ≡ mayStart sheet place number ⌝ }
+{
+    match place {
+        Place::Normal => lookup::listed(sheet, number),
+        Place::Train => lookup::named(sheet, number),
+    }
+}
+
+fn allowed_in(sheet: Sheet, place: Place, phase: u32, next: u32) -> bool
+    ensures { λ r. ⌜ r ≡ allowedIn sheet place phase next ⌝ }
 {
     if next == phase {
         return false;
@@ -18,14 +28,14 @@ fn allowed_in(sheet: Sheet, phase: u32, next: u32) -> bool
     if next == 0 {
         return true;
     }
-    lookup::listed(sheet, next)
+    may_start(sheet, place, next)
 }
 
 fn allowed_at(sheet: Sheet, stage: Stage, next: u32) -> bool
     ensures { λ r. ⌜ r ≡ allowedAt sheet stage next ⌝ }
 {
     match stage {
-        Stage::TrackGreen => lookup::listed(sheet, next),
+        Stage::TrackGreen => may_start(sheet, Place::Normal, next),
         Stage::TrackYellow {
             place: _,
             then: _,
@@ -37,26 +47,37 @@ fn allowed_at(sheet: Sheet, stage: Stage, next: u32) -> bool
             spent: _,
         } => false,
         Stage::Open {
+            place,
             phase,
             green: _,
             walk: _,
-        } => allowed_in(sheet, phase, next),
+        } => allowed_in(sheet, place, phase, next),
         Stage::Ending {
+            place: _,
             phase: _,
             then: _,
             light: _,
             walker: _,
         } => false, // the end may be asked once
         Stage::ClearanceGreen { spent: _ } => false,
-        Stage::Dwell => false,
+        Stage::AllRed => may_start(sheet, Place::Train, next),
     }
 }
 
-fn next(n: u32) -> Then
-    ensures { λ r. ⌜ r ≡ next n ⌝ }
+fn home(place: Place) -> Then
+    ensures { λ r. ⌜ r ≡ home place ⌝ }
+{
+    match place {
+        Place::Normal => Then::ToTrack,
+        Place::Train => Then::ToAllRed,
+    }
+}
+
+fn next(place: Place, n: u32) -> Then
+    ensures { λ r. ⌜ r ≡ next place n ⌝ }
 {
     if n == 0 {
-        Then::ToTrack
+        home(place)
     } else {
         Then::ToPhase(n)
     }
@@ -81,20 +102,32 @@ fn ended(n: u32, stage: Stage) -> Stage
             then: _,
             spent: _,
         } => stage,
-        Stage::Open { phase, green, walk } => Stage::Ending {
+        Stage::Open {
+            place,
+            phase,
+            green,
+            walk,
+        } => Stage::Ending {
+            place: place,
             phase: phase,
-            then: next(n),
+            then: next(place, n),
             light: Light::Green(green),
             walker: Walker::Walk(walk),
         },
         Stage::Ending {
+            place: _,
             phase: _,
             then: _,
             light: _,
             walker: _,
         } => stage,
         Stage::ClearanceGreen { spent: _ } => stage,
-        Stage::Dwell => stage,
+        Stage::AllRed => Stage::Open {
+            place: Place::Train,
+            phase: n,
+            green: 0,
+            walk: 0,
+        },
     }
 }
 

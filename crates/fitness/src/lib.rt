@@ -37,6 +37,7 @@ fn then_fits(sheet: Sheet, then: Then) -> bool
         Then::ToTrack => true,
         Then::ToPhase(n) => lookup::listed(sheet, n),
         Then::ToClearance => true,
+        Then::ToAllRed => true,
         Then::ToDwell => true,
     }
 }
@@ -78,13 +79,14 @@ pub fn stage_fits(t: Lengths, sheet: Sheet, stage: Stage) -> bool
         } else {
             false
         },
-        Stage::Open { phase, green, walk } => phase_fits(
-            sheet,
+        Stage::Open {
+            place: _,
             phase,
-            Light::Green(green),
-            Walker::Walk(walk),
-        ),
+            green,
+            walk,
+        } => phase_fits(sheet, phase, Light::Green(green), Walker::Walk(walk)),
         Stage::Ending {
+            place: _,
             phase,
             then,
             light,
@@ -95,6 +97,6 @@ pub fn stage_fits(t: Lengths, sheet: Sheet, stage: Stage) -> bool
             false
         },
         Stage::ClearanceGreen { spent } => spent <= t.l51,
-        Stage::Dwell => true,
+        Stage::AllRed => true,
     }
 }

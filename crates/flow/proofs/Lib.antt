@@ -1,6 +1,12 @@
+pub mod Cases
 pub mod Counts
 pub mod Dwell
 pub mod Fit
+pub mod Leaving
+pub mod Named
 pub mod Passing
+pub mod Past
 pub mod Rest
+pub mod SideStreets
+pub mod Steps
 pub mod Transfer

@@ -15,16 +15,17 @@ use Rattle.stage.specs.declared.Command.{Command}
 use Rattle.stage.specs.declared.Command.the-variants.{None, End}
 use Rattle.stage.specs.declared.Lengths.{Lengths}
 use Rattle.stage.specs.declared.Place.{Place}
+use Rattle.stage.specs.declared.Place.the-variants.{Normal, Train}
 use Rattle.stage.specs.declared.Stage.{Stage}
-use Rattle.stage.specs.declared.Stage.the-variants.{TrackGreen, TrackYellow, TrackRed, Open, Ending, ClearanceGreen, Dwell}
+use Rattle.stage.specs.declared.Stage.the-variants.{TrackGreen, TrackYellow, TrackRed, Open, Ending, ClearanceGreen, AllRed}
 use Rattle.stage.specs.declared.Then.{Then}
-use Rattle.stage.specs.declared.Then.the-variants.{ToTrack, ToPhase, ToClearance, ToDwell}
+use Rattle.stage.specs.declared.Then.the-variants.{ToTrack, ToPhase, ToClearance, ToAllRed, ToDwell}
 use Rattle.stage.specs.Commands.{allowedAt, allowed, asked, obeyed}
 use Rattle.stage.specs.Listed.{phaseOf}
 use Rattle.stage.specs.Shown.{inNormal}
 use Rattle.stage.specs.Times.{addOne}
 use Rattle.flow.specs.declared.Now.{Now}
-use Rattle.flow.specs.Calls.{counting, answered, dropped, becomes, begins, called, overdue}
+use Rattle.flow.specs.Calls.{counting, answered, unlessOwed, openDropped, endingDropped, dropped, becomes, begins, called, overdue}
 use Rattle.flow.specs.Settling.{enter, settleRed, settleYellow, settleGreen, settledAs, settle}
 use Rattle.flow.specs.Tick.{heard, afterTimes, afterCommand, afterCall, endOf}
 use Rattle.flow.specs.Promises.{Rests, OwedThen, Owed, TransferBegins, phaseShown, InTransfer, NoNewPhase}
@@ -35,20 +36,20 @@ abbrev pub Firm : Stage → Type 0
 Firm TrackGreen = ⊥
 Firm (TrackYellow p z i) = Unit {0}
 Firm (TrackRed p z i) = Unit {0}
-Firm (Open n g w) = ⊥
-Firm (Ending n z l w) = Unit {0}
+Firm (Open p n g w) = ⊥
+Firm (Ending p n z l w) = Unit {0}
 Firm (ClearanceGreen j) = Unit {0}
-Firm Dwell = Unit {0}
+Firm AllRed = ⊥
 
 firm-allowed : (s : Sheet) (st : Stage) (n : ℕ) → Firm st → allowedAt s st n ≡ false
 unfolding allowedAt
 firm-allowed s TrackGreen n f = absurd f
 firm-allowed s (TrackYellow p z i) n f = refl
 firm-allowed s (TrackRed p z i) n f = refl
-firm-allowed s (Open m g w) n f = absurd f
-firm-allowed s (Ending m z l w) n f = refl
+firm-allowed s (Open p m g w) n f = absurd f
+firm-allowed s (Ending p m z l w) n f = refl
 firm-allowed s (ClearanceGreen j) n f = refl
-firm-allowed s Dwell n f = refl
+firm-allowed s AllRed n f = absurd f
 
 unheard : (s : Sheet) (st : Stage) (c : Command) → Firm st → heard s st c ≡ None
 unfolding heard allowed pick
@@ -70,78 +71,79 @@ abbrev pub Coming : ℕ → Stage → Type 0
 Coming n TrackGreen = ⊥
 Coming n (TrackYellow p z k) = z ≡ ToClearance
 Coming n (TrackRed p z k) = z ≡ ToClearance
-Coming n (Open m g w) = ⊥
-Coming n (Ending m z l w) = (z ≡ ToClearance) × (m ≡ n)
+Coming n (Open p m g w) = ⊥
+Coming n (Ending p m z l w) = (z ≡ ToClearance) × (m ≡ n)
 Coming n (ClearanceGreen k) = k ≡ 0
-Coming n Dwell = ⊥
+Coming n AllRed = ⊥
 
 owed-is : (z : Then) → OwedThen z → z ≡ ToClearance
 owed-is ToTrack o = absurd o
 owed-is (ToPhase n) o = absurd o
 owed-is ToClearance o = refl
+owed-is ToAllRed o = absurd o
 owed-is ToDwell o = absurd o
 
 -- "an unended phase is asked to end"
-open-asked : (n g w : ℕ) → asked n ToClearance g w ≡ answered (Open n g w)
+open-asked : (p : Place) (n g w : ℕ) → asked p n ToClearance g w ≡ answered (Open p n g w)
 unfolding answered
-open-asked n g w = refl
+open-asked p n g w = refl
 
 pub answered-coming : (st : Stage) → Coming (phaseShown st) (answered st)
 unfolding answered
 answered-coming TrackGreen = refl
 answered-coming (TrackYellow p z k) = refl
 answered-coming (TrackRed p z k) = refl
-answered-coming (Open m g w) = subst (Coming m) (open-asked m g w) (refl, refl)
-answered-coming (Ending m z l w) = (refl, refl)
+answered-coming (Open p m g w) = subst (Coming m) (open-asked p m g w) (refl, refl)
+answered-coming (Ending p m z l w) = (refl, refl)
 answered-coming (ClearanceGreen k) = refl
-answered-coming Dwell = refl
+answered-coming AllRed = refl
 
 coming-firm : (n : ℕ) (st : Stage) → Coming n st → Firm st
 coming-firm n TrackGreen h = h
 coming-firm n (TrackYellow p z k) h = tt
 coming-firm n (TrackRed p z k) h = tt
-coming-firm n (Open m g w) h = h
-coming-firm n (Ending m z l w) h = tt
+coming-firm n (Open p m g w) h = h
+coming-firm n (Ending p m z l w) h = tt
 coming-firm n (ClearanceGreen k) h = tt
-coming-firm n Dwell h = tt
+coming-firm n AllRed h = h
 
 coming-shows : (n : ℕ) (st : Stage) → Coming n st → (phaseShown st ≡ n) ⊎ (phaseShown st ≡ 0)
 coming-shows n TrackGreen h = inr refl
 coming-shows n (TrackYellow p z k) h = inr refl
 coming-shows n (TrackRed p z k) h = inr refl
-coming-shows n (Open m g w) h = absurd h
-coming-shows n (Ending m z l w) h = inl (h .1)
+coming-shows n (Open p m g w) h = absurd h
+coming-shows n (Ending p m z l w) h = inl (h .1)
 coming-shows n (ClearanceGreen k) h = inr refl
-coming-shows n Dwell h = inr refl
+coming-shows n AllRed h = inr refl
 
 coming-owed : (n : ℕ) (st : Stage) → Coming n st → (st ≡ ClearanceGreen 0) ⊎ Owed st
 coming-owed n TrackGreen h = absurd h
 coming-owed n (TrackYellow p z k) h = inr (subst OwedThen (sym h) tt)
 coming-owed n (TrackRed p z k) h = inr (subst OwedThen (sym h) tt)
-coming-owed n (Open m g w) h = absurd h
-coming-owed n (Ending m z l w) h = inr (subst OwedThen (sym (h .0)) tt)
+coming-owed n (Open p m g w) h = absurd h
+coming-owed n (Ending p m z l w) h = inr (subst OwedThen (sym (h .0)) tt)
 coming-owed n (ClearanceGreen k) h = inl (ap ClearanceGreen h)
-coming-owed n Dwell h = absurd h
+coming-owed n AllRed h = absurd h
 
 -- ---- settling
 module _ (t : Lengths) (s : Sheet) (call : Bool) (lasts : 0 < t .l51) (n : ℕ) where
-  enter-coming : (z : Then) → z ≡ ToClearance → Coming n (enter call z)
+  enter-coming : (p : Place) (z : Then) → z ≡ ToClearance → Coming n (enter call p z)
   unfolding enter
-  enter-coming z e = subst (λ (y : Then). Coming n (enter call y)) (sym e) refl
+  enter-coming p z e = subst (λ (y : Then). Coming n (enter call p y)) (sym e) refl
 
   red-coming : (p : Place) (z : Then) (k : ℕ) → z ≡ ToClearance → Coming n (settleRed t call p z k)
   unfolding settleRed
-  red-coming p z k e = cases (Coming n) (leb (t .«track_red») k) (enter call z) (TrackRed p z k) (λ b. enter-coming z e) (λ b. e)
+  red-coming p z k e = cases (Coming n) (leb (t .«track_red») k) (enter call p z) (TrackRed p z k) (λ b. enter-coming p z e) (λ b. e)
 
   yellow-coming : (p : Place) (z : Then) (k : ℕ) → z ≡ ToClearance → Coming n (settleYellow t call p z k)
   unfolding settleYellow
   yellow-coming p z k e =
       cases (Coming n) (leb (t .«track_yellow») k) (settleRed t call p z 0) (TrackYellow p z k) (λ b. red-coming p z 0 e) (λ b. e)
 
-  settled-coming : (m : ℕ) (z : Then) (x : Settled) → z ≡ ToClearance → m ≡ n → Coming n (settledAs call m z x)
+  settled-coming : (p : Place) (m : ℕ) (z : Then) (x : Settled) → z ≡ ToClearance → m ≡ n → Coming n (settledAs call p m z x)
   unfolding settledAs
-  settled-coming m z (Stays l w) e d = (e, d)
-  settled-coming m z Over e d = enter-coming z e
+  settled-coming p m z (Stays l w) e d = (e, d)
+  settled-coming p m z Over e d = enter-coming p z e
 
   green-coming : (k : ℕ) → k ≡ 0 → Coming n (settle t s call (ClearanceGreen k))
   green-coming k e = subst (Coming n) (sym (kept t s call (ClearanceGreen k) (subst (λ (i : ℕ). i < t .l51) (sym e) lasts))) e
@@ -151,10 +153,10 @@ module _ (t : Lengths) (s : Sheet) (call : Bool) (lasts : 0 < t .l51) (n : ℕ) 
   settle-coming TrackGreen h = h
   settle-coming (TrackYellow p z k) h = yellow-coming p z k h
   settle-coming (TrackRed p z k) h = red-coming p z k h
-  settle-coming (Open m g w) h = h
-  settle-coming (Ending m z l w) h = settled-coming m z (settlePhase (phaseOf s m) l w) (h .0) (h .1)
+  settle-coming (Open p m g w) h = h
+  settle-coming (Ending p m z l w) h = settled-coming p m z (settlePhase (phaseOf s m) l w) (h .0) (h .1)
   settle-coming (ClearanceGreen k) h = green-coming k h
-  settle-coming Dwell h = h
+  settle-coming AllRed h = h
 
 -- ---- the call changes nothing
 coming-answered : (n : ℕ) (st : Stage) → Coming n st → answered st ≡ st
@@ -162,20 +164,21 @@ unfolding answered
 coming-answered n TrackGreen h = absurd h
 coming-answered n (TrackYellow p z i) h = ap (λ (y : Then). TrackYellow p y i) (sym h)
 coming-answered n (TrackRed p z i) h = ap (λ (y : Then). TrackRed p y i) (sym h)
-coming-answered n (Open m g w) h = absurd h
-coming-answered n (Ending m z l w) h = ap (λ (y : Then). Ending m y l w) (sym (h .0))
+coming-answered n (Open p m g w) h = absurd h
+coming-answered n (Ending p m z l w) h = ap (λ (y : Then). Ending p m y l w) (sym (h .0))
 coming-answered n (ClearanceGreen j) h = ap ClearanceGreen (sym h)
-coming-answered n Dwell h = absurd h
+coming-answered n AllRed h = absurd h
 
 coming-dropped : (n : ℕ) (st : Stage) → Coming n st → dropped st ≡ st
-unfolding dropped
+unfolding dropped openDropped endingDropped unlessOwed
 coming-dropped n TrackGreen h = refl
 coming-dropped n (TrackYellow p z i) h = refl
 coming-dropped n (TrackRed p z i) h = refl
-coming-dropped n (Open m g w) h = refl
-coming-dropped n (Ending m z l w) h = refl
+coming-dropped n (Open p m g w) h = absurd h
+coming-dropped n (Ending Normal m z l w) h = refl
+coming-dropped n (Ending Train m z l w) h = ap (λ (y : Then). Ending Train m y l w) (ap unlessOwed (h .0) ∙ sym (h .0))
 coming-dropped n (ClearanceGreen j) h = refl
-coming-dropped n Dwell h = absurd h
+coming-dropped n AllRed h = absurd h
 
 pub coming-called : (t : Lengths) (call counted : Bool) (i n : ℕ) (st : Stage) → Coming n st → called t call counted i st ≡ st
 unfolding called
@@ -197,10 +200,10 @@ unfolding addOne
 owed-added t s TrackGreen o = absurd o
 owed-added t s (TrackYellow p z k) o = owed-is z o
 owed-added t s (TrackRed p z k) o = owed-is z o
-owed-added t s (Open n g w) o = absurd o
-owed-added t s (Ending n z l w) o = (owed-is z o, refl)
+owed-added t s (Open p n g w) o = absurd o
+owed-added t s (Ending p n z l w) o = (owed-is z o, refl)
 owed-added t s (ClearanceGreen k) o = absurd o
-owed-added t s Dwell o = absurd o
+owed-added t s AllRed o = absurd o
 
 pub overdue-coming : (t : Lengths) (i n : ℕ) (st : Stage) → Coming n st → overdue t i st ≡ st
 unfolding overdue
@@ -214,20 +217,20 @@ unfolding addOne
 shown-added t s TrackGreen = refl
 shown-added t s (TrackYellow p z k) = refl
 shown-added t s (TrackRed p z k) = refl
-shown-added t s (Open n g w) = refl
-shown-added t s (Ending n z l w) = refl
+shown-added t s (Open p n g w) = refl
+shown-added t s (Ending p n z l w) = refl
 shown-added t s (ClearanceGreen k) = refl
-shown-added t s Dwell = refl
+shown-added t s AllRed = refl
 
 pub normal-added : (t : Lengths) (s : Sheet) (st : Stage) → inNormal (addOne t s st) ≡ inNormal st
 unfolding addOne inNormal
 normal-added t s TrackGreen = refl
 normal-added t s (TrackYellow p z k) = refl
 normal-added t s (TrackRed p z k) = refl
-normal-added t s (Open n g w) = refl
-normal-added t s (Ending n z l w) = refl
+normal-added t s (Open p n g w) = refl
+normal-added t s (Ending p n z l w) = refl
 normal-added t s (ClearanceGreen k) = refl
-normal-added t s Dwell = refl
+normal-added t s AllRed = refl
 
 overdue-answered : (t : Lengths) (i : ℕ) (st : Stage) → i ≡ t .l03 → inNormal st ≡ true → overdue t i st ≡ answered st
 unfolding overdue pick

@@ -3,18 +3,24 @@ use Prim.Native.Nat.{ℕ, _+_}
 use mathlib.Core.Bool.{Bool, false}
 use lib.Dec.{eqb}
 use Rattle.units.specs.Numbers.{pick}
+use Rattle.phase.specs.declared.Light.{Light}
+use Rattle.phase.specs.declared.Walker.{Walker}
 use Rattle.phase.specs.Times.{oneMore}
 use Rattle.stage.specs.declared.Lengths.{Lengths}
+use Rattle.stage.specs.declared.Place.{Place}
+use Rattle.stage.specs.declared.Place.the-variants.{Normal, Train}
 use Rattle.stage.specs.declared.Stage.{Stage}
-use Rattle.stage.specs.declared.Stage.the-variants.{TrackGreen, TrackYellow, TrackRed, Open, Ending, ClearanceGreen, Dwell}
-use Rattle.stage.specs.declared.Then.the-variants.{ToClearance}
+use Rattle.stage.specs.declared.Stage.the-variants.{TrackGreen, TrackYellow, TrackRed, Open, Ending, ClearanceGreen, AllRed}
+use Rattle.stage.specs.declared.Then.{Then}
+use Rattle.stage.specs.declared.Then.the-variants.{ToTrack, ToPhase, ToClearance, ToAllRed, ToDwell}
 use Rattle.stage.specs.Commands.{asked}
 use Rattle.stage.specs.Shown.{inNormal}
 use Rattle.flow.specs.declared.Now.{Now}
 
 -- ---- the count
--- "Between transfer and the end of dwell the call is read only at the end of track red and in dwell": a tick counts the call that begins in normal
--- operation; with the count at line 3 the transfer has begun
+-- "Between transfer and the end of dwell the call is read only at the end of track red and in dwell", and "a call back on meanwhile counts from the
+-- tick after" the one with which normal track green returns: a tick counts the call that begins in normal operation; with the count at line 3 the
+-- transfer has begun
 unfoldable pub counting : Lengths → Now → Bool
 counting t now = pick (eqb (now .count) (t .l03)) false (inNormal (now .stage))
 
@@ -33,20 +39,37 @@ unfoldable pub answered : Stage → Stage
 answered TrackGreen = ClearanceGreen 0
 answered (TrackYellow p z k) = TrackYellow p ToClearance k
 answered (TrackRed p z k) = TrackRed p ToClearance k
-answered (Open n g w) = asked n ToClearance g w
-answered (Ending n z l w) = Ending n ToClearance l w
+answered (Open p n g w) = asked p n ToClearance g w
+answered (Ending p n z l w) = Ending p n ToClearance l w
 answered (ClearanceGreen k) = ClearanceGreen 0
-answered Dwell = ClearanceGreen 0
+answered AllRed = ClearanceGreen 0
 
--- "Dwell ends on the first tick with the call off, and track green in normal operation follows"
+-- "When the call goes off, the running phase is ended by the ordinary rules before normal track green returns": it is asked to end if it was not,
+-- and what was next is dropped; only a clearance green that is owed, which no run brings to dwell, would still be
+unfoldable pub unlessOwed : Then → Then
+unlessOwed ToTrack = ToTrack
+unlessOwed (ToPhase n) = ToTrack
+unlessOwed ToClearance = ToClearance
+unlessOwed ToAllRed = ToTrack
+unlessOwed ToDwell = ToTrack
+
+unfoldable pub openDropped : ℕ → ℕ → ℕ → Place → Stage
+openDropped n g w Normal = Open Normal n g w
+openDropped n g w Train = asked Train n ToTrack g w
+
+unfoldable pub endingDropped : ℕ → Then → Light → Walker → Place → Stage
+endingDropped n z l w Normal = Ending Normal n z l w
+endingDropped n z l w Train = Ending Train n (unlessOwed z) l w
+
+-- all red of dwell "ends on the first tick with the call off, and track green in normal operation follows"
 unfoldable pub dropped : Stage → Stage
 dropped TrackGreen = TrackGreen
 dropped (TrackYellow p z k) = TrackYellow p z k
 dropped (TrackRed p z k) = TrackRed p z k
-dropped (Open n g w) = Open n g w
-dropped (Ending n z l w) = Ending n z l w
+dropped (Open p n g w) = openDropped n g w p
+dropped (Ending p n z l w) = endingDropped n z l w p
 dropped (ClearanceGreen k) = ClearanceGreen k
-dropped Dwell = TrackGreen
+dropped AllRed = TrackGreen
 
 -- with n counted before a tick that sees the call on, the count becomes line 3 on it
 unfoldable pub becomes : Lengths → ℕ → Bool

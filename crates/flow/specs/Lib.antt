@@ -1,4 +1,5 @@
 pub mod Calls
+pub mod Cases
 pub mod Promises
 pub mod Settling
 pub mod Tick

@@ -12,23 +12,24 @@ use Rattle.phase.specs.Times.{served}
 use Rattle.phase.specs.Ending.{settlePhase}
 use Rattle.stage.specs.declared.Lengths.{Lengths}
 use Rattle.stage.specs.declared.Place.{Place}
-use Rattle.stage.specs.declared.Place.the-variants.{Train}
+use Rattle.stage.specs.declared.Place.the-variants.{Normal, Train}
 use Rattle.stage.specs.declared.Stage.{Stage}
-use Rattle.stage.specs.declared.Stage.the-variants.{TrackGreen, TrackYellow, TrackRed, Open, Ending, ClearanceGreen, Dwell}
+use Rattle.stage.specs.declared.Stage.the-variants.{TrackGreen, TrackYellow, TrackRed, Open, Ending, ClearanceGreen, AllRed}
 use Rattle.stage.specs.declared.Then.{Then}
-use Rattle.stage.specs.declared.Then.the-variants.{ToTrack, ToPhase, ToClearance, ToDwell}
+use Rattle.stage.specs.declared.Then.the-variants.{ToTrack, ToPhase, ToClearance, ToAllRed, ToDwell}
 use Rattle.stage.specs.Listed.{phaseOf}
 
--- what follows: "then phase n"; "when the phase or the track red is over, track clearance green starts"; "then dwell if the call is on, else track
--- green in normal operation"
-unfoldable pub enter : Bool → Then → Stage
-enter call ToTrack = TrackGreen
-enter call (ToPhase n) = Open n 0 0
-enter call ToClearance = ClearanceGreen 0
-enter call ToDwell = pick call Dwell TrackGreen
+-- what follows: "then phase n", in the place of what was before it; "when the phase or the track red is over, track clearance green starts"; "0 for
+-- all red"; "then dwell if the call is on, else track green in normal operation", where "Dwell starts in all red"
+unfoldable pub enter : Bool → Place → Then → Stage
+enter call p ToTrack = TrackGreen
+enter call p (ToPhase n) = Open p n 0 0
+enter call p ToClearance = ClearanceGreen 0
+enter call p ToAllRed = AllRed
+enter call p ToDwell = pick call AllRed TrackGreen
 
 unfoldable pub settleRed : Lengths → Bool → Place → Then → ℕ → Stage
-settleRed t call p z k = pick (served (t .«track_red») k) (enter call z) (TrackRed p z k)
+settleRed t call p z k = pick (served (t .«track_red») k) (enter call p z) (TrackRed p z k)
 
 unfoldable pub settleYellow : Lengths → Bool → Place → Then → ℕ → Stage
 settleYellow t call p z k = pick (served (t .«track_yellow») k) (settleRed t call p z 0) (TrackYellow p z k)
@@ -38,18 +39,18 @@ unfoldable pub settleGreen : Lengths → Bool → ℕ → Stage
 settleGreen t call k = pick (served (t .l51) k) (settleYellow t call Train ToDwell 0) (ClearanceGreen k)
 
 -- a phase that was asked to end
-unfoldable pub settledAs : Bool → ℕ → Then → Settled → Stage
-settledAs call n z (Stays l w) = Ending n z l w
-settledAs call n z Over = enter call z
+unfoldable pub settledAs : Bool → Place → ℕ → Then → Settled → Stage
+settledAs call p n z (Stays l w) = Ending p n z l w
+settledAs call p n z Over = enter call p z
 
-abbrev pub settleEnding : Sheet → Bool → ℕ → Then → Light → Walker → Stage
-settleEnding s call n z l w = settledAs call n z (settlePhase (phaseOf s n) l w)
+abbrev pub settleEnding : Sheet → Bool → Place → ℕ → Then → Light → Walker → Stage
+settleEnding s call p n z l w = settledAs call p n z (settlePhase (phaseOf s n) l w)
 
 unfoldable pub settle : Lengths → Sheet → Bool → Stage → Stage
 settle t s call TrackGreen = TrackGreen
 settle t s call (TrackYellow p z k) = settleYellow t call p z k
 settle t s call (TrackRed p z k) = settleRed t call p z k
-settle t s call (Open n g w) = Open n g w
-settle t s call (Ending n z l w) = settleEnding s call n z l w
+settle t s call (Open p n g w) = Open p n g w
+settle t s call (Ending p n z l w) = settleEnding s call p n z l w
 settle t s call (ClearanceGreen k) = settleGreen t call k
-settle t s call Dwell = Dwell
+settle t s call AllRed = AllRed

@@ -24,7 +24,8 @@ fn then_of(n: u32, next: u32) -> Then
         0 => Then::ToTrack,
         1 => Then::ToPhase(next),
         2 => Then::ToClearance,
-        _ => Then::ToDwell,
+        3 => Then::ToDwell,
+        _ => Then::ToAllRed,
     }
 }
 
@@ -65,17 +66,19 @@ pub fn stage_of(n: State) -> Stage
             spent: n.spent,
         },
         3 => Stage::Open {
+            place: place_of(n.place),
             phase: n.phase,
             green: n.spent,
             walk: n.walked,
         },
         4 => Stage::Ending {
+            place: place_of(n.place),
             phase: n.phase,
             then: then_of(n.follows, n.next),
             light: light_of(n.light, n.spent),
             walker: walker_of(n.walker, n.walked),
         },
         5 => Stage::ClearanceGreen { spent: n.spent },
-        _ => Stage::Dwell,
+        _ => Stage::AllRed,
     }
 }

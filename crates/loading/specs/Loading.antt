@@ -14,6 +14,6 @@ newer held offered = ltb held offered
 abbrev pub placeBy : Bool → ℕ → ℕ → Answer
 placeBy rests held offered = orElse (unless rests LoadNotNow 0) (unless (newer held offered) IssueNotNewer 0)
 
--- "20 before all others"; then the sheet offered "meets 2 to 10 again .. before 11, 21 or 22"
+-- "20 before all others"; then the sheet offered "meets 2 to 10 again .. before 11, 21 or 22", and 12 "after 10"
 abbrev pub answerBy : Bool → Answer → Answer → Answer
 answerBy fits own place = orElse (unless fits UnitUnfit 0) (orElse own place)

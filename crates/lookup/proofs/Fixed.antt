@@ -3,6 +3,8 @@ use mathlib.Core.Path.{sym, _∙_, refl}
 use Rattle.units.specs.Fixed.{Fixes, AsksNothing}
 use Rattle.lookup.proofs.listed.Kinds as listed-kinds
 use Rattle.lookup.proofs.listed.Reads as listed-reads
+use Rattle.lookup.proofs.named.Kinds as named-kinds
+use Rattle.lookup.proofs.named.Reads as named-reads
 use Rattle.lookup.proofs.phase_of.Kinds as phase-of-kinds
 use Rattle.lookup.proofs.phase_of.Reads as phase-of-reads
 
@@ -17,3 +19,9 @@ phase-of-fixed κs a z z′ w w′ p q = (p ∙ sym q, refl)
 
 pub phase-of-open : AsksNothing 0 phase-of-kinds.ps phase-of-reads.Asked
 phase-of-open κs a = tt
+
+pub named-fixed : Fixes 0 named-kinds.ps named-kinds.r named-reads.Learnt
+named-fixed κs a z z′ w w′ p q = (p ∙ sym q, refl)
+
+pub named-open : AsksNothing 0 named-kinds.ps named-reads.Asked
+named-open κs a = tt

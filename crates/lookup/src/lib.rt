@@ -1,6 +1,7 @@
-// The phases of a sheet by their numbers.
+// The phases of a sheet by their numbers, and those that it names for dwell.
 ghost use mathlib.Core.Path.{_≡_};
 ghost use lib.ListN.{take};
+ghost use Rattle.sheet.specs.Entries.{isIn, named};
 ghost use Rattle.stage.specs.Listed.{findIn, isAt, orZero, listed, phaseOf};
 use sheet::Phase;
 use sheet::Sheet;
@@ -54,4 +55,27 @@ pub fn phase_of(sheet: Sheet, number: u32) -> Phase
 {
     let phases = sheet.phases;
     or_zero(find(phases, sheet.phase_count, number))
+}
+
+// The number is among the first so many.
+fn is_in(numbers: [u32; 8], count: u32, number: u32) -> bool
+    ensures { λ r. ⌜ r ≡ isIn (take count numbers) number ⌝ }
+{
+    let n = units::smaller(count as u64, 8) as usize;
+    let mut k: usize = 0;
+    while k < n {
+        if numbers[k] == number {
+            return true;
+        }
+        k += 1;
+    }
+    false
+}
+
+// Whether the sheet names that phase for dwell.
+pub fn named(sheet: Sheet, number: u32) -> bool
+    ensures { λ r. ⌜ r ≡ named sheet number ⌝ }
+{
+    let dwell = sheet.dwell;
+    is_in(dwell, sheet.dwell_count, number)
 }

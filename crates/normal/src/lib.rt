@@ -1,6 +1,6 @@
 // Which stages are normal operation, and where a sheet is loaded.
 ghost use mathlib.Core.Path.{_≡_};
-ghost use Rattle.stage.specs.Shown.{staysNormal, normalBefore, inNormal, resting};
+ghost use Rattle.stage.specs.Shown.{staysNormal, isNormal, normalBefore, inNormal, resting};
 use stage::Place;
 use stage::Stage;
 use stage::Then;
@@ -12,16 +12,27 @@ fn stays_normal(then: Then) -> bool
         Then::ToTrack => true,
         Then::ToPhase(_) => true,
         Then::ToClearance => false,
+        Then::ToAllRed => false,
         Then::ToDwell => false,
+    }
+}
+
+fn is_normal(place: Place) -> bool
+    ensures { λ r. ⌜ r ≡ isNormal place ⌝ }
+{
+    match place {
+        Place::Normal => true,
+        Place::Train => false,
     }
 }
 
 fn normal_before(place: Place, then: Then) -> bool
     ensures { λ r. ⌜ r ≡ normalBefore place then ⌝ }
 {
-    match place {
-        Place::Normal => stays_normal(then),
-        Place::Train => false,
+    if is_normal(place) {
+        stays_normal(then)
+    } else {
+        false
     }
 }
 
@@ -42,18 +53,20 @@ pub fn in_normal(stage: Stage) -> bool
             spent: _,
         } => normal_before(place, then),
         Stage::Open {
+            place,
             phase: _,
             green: _,
             walk: _,
-        } => true,
+        } => is_normal(place),
         Stage::Ending {
+            place,
             phase: _,
             then,
             light: _,
             walker: _,
-        } => normal_before(Place::Normal, then),
+        } => normal_before(place, then),
         Stage::ClearanceGreen { spent: _ } => false, // after the transfer
-        Stage::Dwell => false,
+        Stage::AllRed => false,
     }
 }
 
@@ -74,17 +87,19 @@ pub fn resting(stage: Stage, count: u64) -> bool
             spent: _,
         } => false,
         Stage::Open {
+            place: _,
             phase: _,
             green: _,
             walk: _,
         } => false,
         Stage::Ending {
+            place: _,
             phase: _,
             then: _,
             light: _,
             walker: _,
         } => false,
         Stage::ClearanceGreen { spent: _ } => false, // green on the track, but for a train
-        Stage::Dwell => false, // all red
+        Stage::AllRed => false, // dwell
     }
 }

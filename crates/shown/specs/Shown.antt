@@ -1,5 +1,5 @@
 -- What a unit shows, as the bench prints it: "the tick, the stage, the phase, its walker". The stages are counted: the track's green, yellow and red from 0,
--- a phase's from 3, track clearance's from 6, and 9 is dwell; the walkers: 0 none, 1 walk, 2 clearance.
+-- a phase's from 3, track clearance's from 6, 9 is dwell's all red, and a phase's in dwell are from 10; the walkers: 0 none, 1 walk, 2 clearance.
 use Prim.Native.Nat.{ℕ}
 use mathlib.Core.Bool.{Bool}
 use lib.Dec.{eqb, ltb}
@@ -13,7 +13,7 @@ use Rattle.phase.specs.declared.Walker.the-variants.{Walk, Clearance}
 use Rattle.stage.specs.declared.Place.{Place}
 use Rattle.stage.specs.declared.Place.the-variants.{Normal, Train}
 use Rattle.stage.specs.declared.Stage.{Stage}
-use Rattle.stage.specs.declared.Stage.the-variants.{TrackGreen, TrackYellow, TrackRed, Open, Ending, ClearanceGreen, Dwell}
+use Rattle.stage.specs.declared.Stage.the-variants.{TrackGreen, TrackYellow, TrackRed, Open, Ending, ClearanceGreen, AllRed}
 use Rattle.stage.specs.Listed.{phaseOf}
 use Rattle.shown.specs.declared.Shown.{Shown}
 
@@ -29,10 +29,15 @@ unfoldable pub placed : ℕ → ℕ → Place → Shown
 placed n t Normal = plain n
 placed n t Train = plain t
 
-unfoldable pub lit : Light → ℕ
-lit (Green k) = 3
-lit (Yellow k) = 4
-lit (Red k) = 5
+unfoldable pub lit : ℕ → ℕ → ℕ → Light → ℕ
+lit g y r (Green k) = g
+lit g y r (Yellow k) = y
+lit g y r (Red k) = r
+
+-- "a phase run in dwell shows as `dwell-green`, `dwell-yellow`, `dwell-red`"
+unfoldable pub litIn : Light → Place → ℕ
+litIn l Normal = lit 3 4 5 l
+litIn l Train = lit 10 11 12 l
 
 -- "walk ends once served; clearance then runs its length"
 unfoldable pub onFoot : Phase → Walker → ℕ
@@ -43,17 +48,17 @@ onFoot p (Clearance k) = pick (ltb k (p .clearance)) 2 0
 unfoldable pub walkerOf : Phase → Walker → ℕ
 walkerOf p w = pick (eqb (p .mode) 0) 0 (onFoot p w)
 
-abbrev pub phaseShows : Sheet → ℕ → Light → Walker → Shown
-phaseShows s n l w = shows (lit l) n (walkerOf (phaseOf s n) w)
+abbrev pub phaseShows : Sheet → Place → ℕ → Light → Walker → Shown
+phaseShows s p n l w = shows (litIn l p) n (walkerOf (phaseOf s n) w)
 
 unfoldable pub shownOf : Sheet → Stage → Shown
 shownOf s TrackGreen = plain 0
 shownOf s (TrackYellow p z k) = placed 1 7 p
 shownOf s (TrackRed p z k) = placed 2 8 p
-shownOf s (Open n g w) = phaseShows s n (Green g) (Walk w)
-shownOf s (Ending n z l w) = phaseShows s n l w
+shownOf s (Open p n g w) = phaseShows s p n (Green g) (Walk w)
+shownOf s (Ending p n z l w) = phaseShows s p n l w
 shownOf s (ClearanceGreen k) = plain 6
-shownOf s Dwell = plain 9
+shownOf s AllRed = plain 9
 
 -- "only if what it shows changed"
 unfoldable pub sameShown : Shown → Shown → Bool

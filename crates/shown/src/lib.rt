@@ -1,6 +1,6 @@
 // What a unit shows, as values: the stage, the phase and its walker.
 ghost use mathlib.Core.Path.{_≡_};
-ghost use Rattle.shown.specs.Shown.{plain, placed, lit, walkerOf, phaseShows, shownOf, sameShown};
+ghost use Rattle.shown.specs.Shown.{plain, placed, lit, litIn, walkerOf, phaseShows, shownOf, sameShown};
 use phase::Light;
 use phase::Walker;
 use sheet::Phase;
@@ -8,7 +8,8 @@ use sheet::Sheet;
 use stage::Place;
 use stage::Stage;
 
-// The stage: 0, 1, 2 the track's green, yellow and red, 3 to 5 those of a phase, 6 to 8 those of track clearance, 9 dwell. The phase, 0 for none.
+// The stage: 0, 1, 2 the track's green, yellow and red, 3 to 5 those of a phase, 6 to 8 those of track clearance, 9 dwell's all red, 10 to 12 those of a
+// phase in dwell. The phase, 0 for none.
 // The walker: 0 none, 1 walk, 2 clearance.
 pub struct Shown {
     pub stage: u32,
@@ -37,13 +38,23 @@ fn placed(place: Place, normal: u32, train: u32) -> Shown
     }
 }
 
-fn lit(light: Light) -> u32
-    ensures { λ r. ⌜ r ≡ lit light ⌝ }
+fn lit(light: Light, green: u32, yellow: u32, red: u32) -> u32
+    ensures { λ r. ⌜ r ≡ lit green yellow red light ⌝ }
 {
     match light {
-        Light::Green(_) => 3,
-        Light::Yellow(_) => 4,
-        Light::Red(_) => 5,
+        Light::Green(_) => green,
+        Light::Yellow(_) => yellow,
+        Light::Red(_) => red,
+    }
+}
+
+// A phase's lights are shown by other numbers in dwell.
+fn lit_in(place: Place, light: Light) -> u32
+    ensures { λ r. ⌜ r ≡ litIn light place ⌝ }
+{
+    match place {
+        Place::Normal => lit(light, 3, 4, 5),
+        Place::Train => lit(light, 10, 11, 12),
     }
 }
 
@@ -60,11 +71,11 @@ fn walker_of(p: Phase, walker: Walker) -> u32
     }
 }
 
-fn phase_shows(sheet: Sheet, phase: u32, light: Light, walker: Walker) -> Shown
-    ensures { λ r. ⌜ r ≡ phaseShows sheet phase light walker ⌝ }
+fn phase_shows(sheet: Sheet, place: Place, phase: u32, light: Light, walker: Walker) -> Shown
+    ensures { λ r. ⌜ r ≡ phaseShows sheet place phase light walker ⌝ }
 {
     Shown {
-        stage: lit(light),
+        stage: lit_in(place, light),
         phase: phase,
         walker: walker_of(lookup::phase_of(sheet, phase), walker),
     }
@@ -86,20 +97,21 @@ pub fn of(sheet: Sheet, stage: Stage) -> Shown
             then: _,
             spent: _,
         } => placed(place, 2, 8),
-        Stage::Open { phase, green, walk } => phase_shows(
-            sheet,
+        Stage::Open {
+            place,
             phase,
-            Light::Green(green),
-            Walker::Walk(walk),
-        ),
+            green,
+            walk,
+        } => phase_shows(sheet, place, phase, Light::Green(green), Walker::Walk(walk)),
         Stage::Ending {
+            place,
             phase,
             then: _,
             light,
             walker,
-        } => phase_shows(sheet, phase, light, walker),
+        } => phase_shows(sheet, place, phase, light, walker),
         Stage::ClearanceGreen { spent: _ } => plain(6),
-        Stage::Dwell => plain(9),
+        Stage::AllRed => plain(9),
     }
 }
 

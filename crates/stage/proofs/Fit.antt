@@ -10,18 +10,20 @@ use Rattle.phase.specs.declared.Light.{Light}
 use Rattle.phase.specs.declared.Light.the-variants.{Green}
 use Rattle.phase.specs.declared.Walker.{Walker}
 use Rattle.phase.specs.declared.Walker.the-variants.{Walk}
-use Rattle.phase.specs.Times.{oneMore, addLight, addWalker, lightFits, walkerFits}
+use Rattle.phase.specs.Times.{oneMore, greenTime, addLight, addWalker, lightFits, walkerFits}
 use Rattle.phase.proofs.Fit.{one-more-fits, none-fits, add-light-fits, add-walker-fits}
 use Rattle.stage.specs.declared.Command.the-variants.{None, End}
 use Rattle.stage.specs.declared.Lengths.{Lengths}
+use Rattle.stage.specs.declared.Place.{Place}
+use Rattle.stage.specs.declared.Place.the-variants.{Normal, Train}
 use Rattle.stage.specs.declared.Stage.{Stage}
-use Rattle.stage.specs.declared.Stage.the-variants.{TrackGreen, TrackYellow, TrackRed, Open, Ending, ClearanceGreen, Dwell}
+use Rattle.stage.specs.declared.Stage.the-variants.{TrackGreen, TrackYellow, TrackRed, Open, Ending, ClearanceGreen, AllRed}
 use Rattle.stage.specs.declared.Then.{Then}
 use Rattle.stage.specs.declared.Then.the-variants.{ToTrack, ToPhase}
-use Rattle.stage.specs.Listed.{listed, phaseOf}
+use Rattle.stage.specs.Listed.{listed, phaseOf, NamedAreListed}
 use Rattle.stage.specs.Times.{addOne}
 use Rattle.stage.specs.Fitness.{thenFits, phaseFits, stageFits}
-use Rattle.stage.specs.Commands.{allowedIn, allowedAt, allowed, next, ended, obeyed}
+use Rattle.stage.specs.Commands.{mayStart, allowedIn, allowedAt, allowed, home, next, ended, obeyed}
 use Rattle.stage.specs.Promises.{TickFits, ObeyedFits}
 
 pub both-true : (a b : Bool) → a ≡ true → b ≡ true → both a b ≡ true
@@ -63,28 +65,45 @@ unfolding stageFits addOne addLight addWalker
 tick-fits t s TrackGreen e = refl
 tick-fits t s (TrackYellow p z k) e = then-too (thenFits s z) k (t .«track_yellow») e
 tick-fits t s (TrackRed p z k) e = then-too (thenFits s z) k (t .«track_red») e
-tick-fits t s (Open n g w) e = add-phase-fits s n (Green g) (Walk w) e
-tick-fits t s (Ending n z l w) e = both-true (thenFits s z) _ (both-left (thenFits s z) _ e) (add-phase-fits s n l w (both-right (thenFits s z) _ e))
+tick-fits t s (Open p n g w) e = add-phase-fits s n (Green g) (Walk w) e
+tick-fits t s (Ending p n z l w) e = both-true (thenFits s z) _ (both-left (thenFits s z) _ e) (add-phase-fits s n l w (both-right (thenFits s z) _ e))
 tick-fits t s (ClearanceGreen k) e = one-more-fits k (t .l51) e
-tick-fits t s Dwell e = refl
+tick-fits t s AllRed e = refl
 
--- what is allowed next is the track, or a listed phase
-allowed-next : (s : Sheet) (m n : ℕ) → allowedIn s m n ≡ true → thenFits s (next n) ≡ true
+-- what is allowed next is the track, all red, or a listed phase
+may-start-listed : (s : Sheet) → NamedAreListed s → (p : Place) (n : ℕ) → mayStart s p n ≡ true → listed s n ≡ true
+unfolding mayStart
+may-start-listed s h Normal n e = e
+may-start-listed s h Train n e = h n e
+
+home-fits : (s : Sheet) (p : Place) → thenFits s (home p) ≡ true
+unfolding home thenFits
+home-fits s Normal = refl
+home-fits s Train = refl
+
+allowed-next : (s : Sheet) → NamedAreListed s → (p : Place) (m n : ℕ) → allowedIn s p m n ≡ true → thenFits s (next p n) ≡ true
 unfolding allowedIn next thenFits pick
-allowed-next s m n e =
-    split (eqb n m) (λ h. never (rw h at e)) (λ h. split (eqb n 0) (λ z. rw z refl) (λ z. rw z (rw (h, z) at e)))
+allowed-next s l p m n e =
+    split (eqb n m) (λ h. never (rw h at e))
+    (λ h. split (eqb n 0) (λ z. rw z (home-fits s p)) (λ z. rw z (may-start-listed s l p n (rw (h, z) at e))))
 
-ended-fits : (t : Lengths) (s : Sheet) (st : Stage) (n : ℕ) → allowedAt s st n ≡ true → stageFits t s st ≡ true → stageFits t s (ended n st) ≡ true
+-- a phase just started
+pub opened-fits : (t : Lengths) (s : Sheet) (p : Place) (n : ℕ) → listed s n ≡ true → stageFits t s (Open p n 0 0) ≡ true
+unfolding stageFits lightFits walkerFits
+opened-fits t s p n f =
+    phase-fits s n (Green 0) (Walk 0) (record { isListed = f; light = none-fits (greenTime (phaseOf s n)); walker = none-fits (phaseOf s n .walk) })
+
+ended-fits : (t : Lengths) (s : Sheet) → NamedAreListed s → (st : Stage) (n : ℕ) → allowedAt s st n ≡ true → stageFits t s st ≡ true → stageFits t s (ended n st) ≡ true
 unfolding stageFits thenFits allowedAt ended
-ended-fits t s TrackGreen n a e = both-true (thenFits s (ToPhase n)) _ a (none-fits (t .«track_yellow»))
-ended-fits t s (TrackYellow p z k) n a e = e
-ended-fits t s (TrackRed p z k) n a e = e
-ended-fits t s (Open m g w) n a e = both-true (thenFits s (next n)) _ (allowed-next s m n a) e
-ended-fits t s (Ending m z l w) n a e = e
-ended-fits t s (ClearanceGreen k) n a e = e
-ended-fits t s Dwell n a e = e
+ended-fits t s h TrackGreen n a e = both-true (thenFits s (ToPhase n)) _ (may-start-listed s h Normal n a) (none-fits (t .«track_yellow»))
+ended-fits t s h (TrackYellow p z k) n a e = e
+ended-fits t s h (TrackRed p z k) n a e = e
+ended-fits t s h (Open p m g w) n a e = both-true (thenFits s (next p n)) _ (allowed-next s h p m n a) e
+ended-fits t s h (Ending p m z l w) n a e = e
+ended-fits t s h (ClearanceGreen k) n a e = e
+ended-fits t s h AllRed n a e = opened-fits t s Train n (may-start-listed s h Train n a)
 
 pub obeyed-fits : ObeyedFits
 unfolding allowed obeyed
-obeyed-fits t s st None a e = e
-obeyed-fits t s st (End n) a e = ended-fits t s st n a e
+obeyed-fits t s h st None a e = e
+obeyed-fits t s h st (End n) a e = ended-fits t s h st n a e

@@ -10,17 +10,20 @@ pub enum Place {
     Train,
 }
 
-// What follows where a stage is over: track green in normal operation, which is next 0; a phase; the track clearance green that is owed once the
-// transfer has begun; or, as the call is then, dwell if it is on and track green if it is off.
+// What follows where a stage is over: track green in normal operation, which is next 0 there; a phase, in the same place; the track clearance green
+// that is owed once the transfer has begun; dwell's all red, which is next 0 in dwell; or, as the call is then, dwell's all red if it is on and track
+// green if it is off.
 pub enum Then {
     ToTrack,
     ToPhase(u32),
     ToClearance,
+    ToAllRed,
     ToDwell,
 }
 
 // Each stage with its interval's ticks spent. One that is over of itself has what follows with it: the track's yellow and red, in normal
-// operation and after track clearance green, and a phase that was asked to end.
+// operation and after track clearance green, and a phase that was asked to end. A phase in place Train is one of dwell, and all red is what
+// dwell shows without a phase.
 pub enum Stage {
     TrackGreen,
     TrackYellow {
@@ -34,11 +37,13 @@ pub enum Stage {
         spent: u64,
     },
     Open {
+        place: Place,
         phase: u32,
         green: u64,
         walk: u64,
     },
     Ending {
+        place: Place,
         phase: u32,
         then: Then,
         light: Light,
@@ -47,10 +52,10 @@ pub enum Stage {
     ClearanceGreen {
         spent: u64,
     },
-    Dwell,
+    AllRed,
 }
 
-// None, or end with the number that is next; 0 is the track.
+// None, or end with the number that is next; 0 is the track, and in dwell all red.
 pub enum Command {
     None,
     End(u32),

@@ -7,9 +7,9 @@ use Rattle.phase.specs.declared.Walker.{Walker}
 use Rattle.phase.specs.declared.Walker.the-variants.{Walk, Clearance}
 use Rattle.stage.specs.declared.Place.{Place}
 use Rattle.stage.specs.declared.Place.the-variants.{Normal, Train}
-use Rattle.stage.specs.declared.Stage.the-variants.{TrackGreen, TrackYellow, TrackRed, Open, Ending, ClearanceGreen, Dwell}
+use Rattle.stage.specs.declared.Stage.the-variants.{TrackGreen, TrackYellow, TrackRed, Open, Ending, ClearanceGreen, AllRed}
 use Rattle.stage.specs.declared.Then.{Then}
-use Rattle.stage.specs.declared.Then.the-variants.{ToTrack, ToPhase, ToClearance, ToDwell}
+use Rattle.stage.specs.declared.Then.the-variants.{ToTrack, ToPhase, ToClearance, ToAllRed, ToDwell}
 use Rattle.state.specs.State.{placeNumber, thenNumber, nextNumber, lightNumber, lightTime, walkerNumber, walkerTime, numbersOf, placeOf, thenOf, lightOf, walkerOf, stageOf}
 use Rattle.state.specs.Promises.{NothingLost}
 
@@ -23,6 +23,7 @@ unfolding thenOf thenNumber nextNumber pick
 then-back ToTrack = refl
 then-back (ToPhase n) = refl
 then-back ToClearance = refl
+then-back ToAllRed = refl
 then-back ToDwell = refl
 
 light-back : (l : Light) → lightOf (lightNumber l) (lightTime l) ≡ l
@@ -41,7 +42,7 @@ unfolding numbersOf stageOf lightTime walkerTime pick
 nothing-lost TrackGreen = refl
 nothing-lost (TrackYellow p z k) = rw (place-back p, then-back z) refl
 nothing-lost (TrackRed p z k) = rw (place-back p, then-back z) refl
-nothing-lost (Open n g w) = refl
-nothing-lost (Ending n z l w) = rw (then-back z, light-back l, walker-back w) refl
+nothing-lost (Open p n g w) = rw (place-back p) refl
+nothing-lost (Ending p n z l w) = rw (place-back p, then-back z, light-back l, walker-back w) refl
 nothing-lost (ClearanceGreen k) = refl
-nothing-lost Dwell = refl
+nothing-lost AllRed = refl

@@ -9,9 +9,9 @@ use Rattle.phase.specs.declared.Walker.the-variants.{Walk, Clearance}
 use Rattle.stage.specs.declared.Place.{Place}
 use Rattle.stage.specs.declared.Place.the-variants.{Normal, Train}
 use Rattle.stage.specs.declared.Stage.{Stage}
-use Rattle.stage.specs.declared.Stage.the-variants.{TrackGreen, TrackYellow, TrackRed, Open, Ending, ClearanceGreen, Dwell}
+use Rattle.stage.specs.declared.Stage.the-variants.{TrackGreen, TrackYellow, TrackRed, Open, Ending, ClearanceGreen, AllRed}
 use Rattle.stage.specs.declared.Then.{Then}
-use Rattle.stage.specs.declared.Then.the-variants.{ToTrack, ToPhase, ToClearance, ToDwell}
+use Rattle.stage.specs.declared.Then.the-variants.{ToTrack, ToPhase, ToClearance, ToAllRed, ToDwell}
 use Rattle.state.specs.declared.State.{State}
 
 unfoldable pub placeNumber : Place → ℕ
@@ -22,12 +22,14 @@ unfoldable pub thenNumber : Then → ℕ
 thenNumber ToTrack = 0
 thenNumber (ToPhase n) = 1
 thenNumber ToClearance = 2
+thenNumber ToAllRed = 4
 thenNumber ToDwell = 3
 
 unfoldable pub nextNumber : Then → ℕ
 nextNumber ToTrack = 0
 nextNumber (ToPhase n) = n
 nextNumber ToClearance = 0
+nextNumber ToAllRed = 0
 nextNumber ToDwell = 0
 
 unfoldable pub lightNumber : Light → ℕ
@@ -63,11 +65,11 @@ track kind p z k =
       walked = 0;
     }
 
-abbrev pub inPhase : ℕ → ℕ → Then → Light → Walker → State
-inPhase kind n z l w =
+abbrev pub inPhase : ℕ → Place → ℕ → Then → Light → Walker → State
+inPhase kind p n z l w =
     record {
       kind = kind;
-      place = 0;
+      place = placeNumber p;
       follows = thenNumber z;
       next = nextNumber z;
       phase = n;
@@ -81,16 +83,16 @@ unfoldable pub numbersOf : Stage → State
 numbersOf TrackGreen = track 0 Normal ToTrack 0
 numbersOf (TrackYellow p z k) = track 1 p z k
 numbersOf (TrackRed p z k) = track 2 p z k
-numbersOf (Open n g w) = inPhase 3 n ToTrack (Green g) (Walk w)
-numbersOf (Ending n z l w) = inPhase 4 n z l w
+numbersOf (Open p n g w) = inPhase 3 p n ToTrack (Green g) (Walk w)
+numbersOf (Ending p n z l w) = inPhase 4 p n z l w
 numbersOf (ClearanceGreen k) = track 5 Normal ToTrack k
-numbersOf Dwell = track 6 Normal ToTrack 0
+numbersOf AllRed = track 6 Normal ToTrack 0
 
 unfoldable pub placeOf : ℕ → Place
 placeOf n = pick (eqb n 0) Normal Train
 
 unfoldable pub thenOf : ℕ → ℕ → Then
-thenOf n next = pick (eqb n 0) ToTrack (pick (eqb n 1) (ToPhase next) (pick (eqb n 2) ToClearance ToDwell))
+thenOf n next = pick (eqb n 0) ToTrack (pick (eqb n 1) (ToPhase next) (pick (eqb n 2) ToClearance (pick (eqb n 3) ToDwell ToAllRed)))
 
 unfoldable pub lightOf : ℕ → ℕ → Light
 lightOf n k = pick (eqb n 0) (Green k) (pick (eqb n 1) (Yellow k) (Red k))
@@ -107,6 +109,6 @@ stageOf n =
     pick (eqb (n .kind) 0) TrackGreen
     (pick (eqb (n .kind) 1) (TrackYellow (placeOf (n .place)) (follows n) (n .spent))
     (pick (eqb (n .kind) 2) (TrackRed (placeOf (n .place)) (follows n) (n .spent))
-    (pick (eqb (n .kind) 3) (Open (n .phase) (n .spent) (n .walked))
-    (pick (eqb (n .kind) 4) (Ending (n .phase) (follows n) (lightOf (n .light) (n .spent)) (walkerOf (n .walker) (n .walked)))
-    (pick (eqb (n .kind) 5) (ClearanceGreen (n .spent)) Dwell)))))
+    (pick (eqb (n .kind) 3) (Open (placeOf (n .place)) (n .phase) (n .spent) (n .walked))
+    (pick (eqb (n .kind) 4) (Ending (placeOf (n .place)) (n .phase) (follows n) (lightOf (n .light) (n .spent)) (walkerOf (n .walker) (n .walked)))
+    (pick (eqb (n .kind) 5) (ClearanceGreen (n .spent)) AllRed)))))

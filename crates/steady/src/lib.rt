@@ -3,12 +3,13 @@ ghost use mathlib.Core.Path.{_≡_};
 ghost use Prim.Native.Nat.{_+_};
 ghost use lib.Dec.{ltb};
 ghost use Rattle.flow.specs.Tick.{ticked};
-ghost use Rattle.steady.specs.Steady.{waits, steadyIn, countLater};
+ghost use Rattle.steady.specs.Steady.{waits, steadyOpen, steadyIn, countOpen, countLater};
 use flow::Now;
 use flow::Ticked;
 use sheet::Sheet;
 use stage::Command;
 use stage::Lengths;
+use stage::Place;
 use stage::Stage;
 
 // A time one tick later is still below its length.
@@ -33,6 +34,16 @@ fn waits(t: Lengths, call: bool, count: u64) -> bool
     }
 }
 
+// A phase that is not asked to end stays.
+fn stays_open(t: Lengths, call: bool, count: u64, place: Place) -> bool
+    ensures { λ r. ⌜ r ≡ steadyOpen t call count place ⌝ }
+{
+    match place {
+        Place::Normal => waits(t, call, count),
+        Place::Train => call,
+    }
+}
+
 // Nothing is due in the stage.
 fn stays(t: Lengths, call: bool, count: u64, stage: Stage) -> bool
     ensures { λ r. ⌜ r ≡ steadyIn t call count stage ⌝ }
@@ -50,22 +61,33 @@ fn stays(t: Lengths, call: bool, count: u64, stage: Stage) -> bool
             spent: _,
         } => false,
         Stage::Open {
+            place,
             phase: _,
             green: _,
             walk: _,
-        } => waits(t, call, count),
+        } => stays_open(t, call, count, place),
         Stage::Ending {
+            place: _,
             phase: _,
             then: _,
             light: _,
             walker: _,
         } => false,
         Stage::ClearanceGreen { spent } => below(spent, t.l51),
-        Stage::Dwell => call,
+        Stage::AllRed => call,
     }
 }
 
-// The call is counted where it waits for the transfer: of the stages that stay, in track green and in a phase.
+fn count_open(t: Lengths, call: bool, count: u64, place: Place) -> u64
+    ensures { λ r. ⌜ r ≡ countOpen t call count place ⌝ }
+{
+    match place {
+        Place::Normal => intervals::count_on(call, count, t.l03),
+        Place::Train => count,
+    }
+}
+
+// The call is counted where it waits for the transfer: of the stages that stay, in track green and in a phase of normal operation.
 fn count_later(t: Lengths, call: bool, count: u64, stage: Stage) -> u64
     ensures { λ r. ⌜ r ≡ countLater t call count stage ⌝ }
 {
@@ -82,18 +104,20 @@ fn count_later(t: Lengths, call: bool, count: u64, stage: Stage) -> u64
             spent: _,
         } => count,
         Stage::Open {
+            place,
             phase: _,
             green: _,
             walk: _,
-        } => intervals::count_on(call, count, t.l03),
+        } => count_open(t, call, count, place),
         Stage::Ending {
+            place: _,
             phase: _,
             then: _,
             light: _,
             walker: _,
         } => count,
         Stage::ClearanceGreen { spent: _ } => count,
-        Stage::Dwell => count,
+        Stage::AllRed => count,
     }
 }
 

@@ -1,7 +1,9 @@
 // One tick of the stage and of the call's count: the changes due, what the call does, and the three steps of a tick.
 ghost use mathlib.Core.Path.{_≡_};
+ghost use Rattle.stage.specs.declared.Stage.the-variants.{Ending};
+ghost use Rattle.stage.specs.declared.Then.the-variants.{ToClearance};
 ghost use Rattle.flow.specs.Settling.{enter, settleRed, settleYellow, settleGreen, settledAs, settleEnding, settle};
-ghost use Rattle.flow.specs.Calls.{counting, countAfter, answered, dropped, becomes, begins, called, overdue};
+ghost use Rattle.flow.specs.Calls.{counting, countAfter, answered, unlessOwed, openDropped, endingDropped, dropped, becomes, begins, called, overdue};
 ghost use Rattle.flow.specs.Tick.{afterTimes, heard, afterCommand, afterCall, ticked};
 use flow::Now;
 use flow::Ticked;
@@ -17,19 +19,21 @@ use stage::Then;
 
 // ---- what follows, and the changes due
 
-fn enter(call: bool, then: Then) -> Stage
-    ensures { λ r. ⌜ r ≡ enter call then ⌝ }
+fn enter(call: bool, place: Place, then: Then) -> Stage
+    ensures { λ r. ⌜ r ≡ enter call place then ⌝ }
 {
     match then {
         Then::ToTrack => Stage::TrackGreen,
         Then::ToPhase(n) => Stage::Open {
+            place: place,
             phase: n,
             green: 0,
             walk: 0,
         },
         Then::ToClearance => Stage::ClearanceGreen { spent: 0 },
+        Then::ToAllRed => Stage::AllRed,
         Then::ToDwell => if call {
-            Stage::Dwell
+            Stage::AllRed
         } else {
             Stage::TrackGreen // the call is off
         },
@@ -40,7 +44,7 @@ fn settle_red(t: Lengths, call: bool, place: Place, then: Then, spent: u64) -> S
     ensures { λ r. ⌜ r ≡ settleRed t call place then spent ⌝ }
 {
     if t.track_red <= spent {
-        enter(call, then)
+        enter(call, place, then)
     } else {
         Stage::TrackRed {
             place: place,
@@ -74,32 +78,40 @@ fn settle_green(t: Lengths, call: bool, spent: u64) -> Stage
     }
 }
 
-fn settled_as(call: bool, phase: u32, then: Then, settled: Settled) -> Stage
-    ensures { λ r. ⌜ r ≡ settledAs call phase then settled ⌝ }
+fn settled_as(call: bool, place: Place, phase: u32, then: Then, settled: Settled) -> Stage
+    ensures { λ r. ⌜ r ≡ settledAs call place phase then settled ⌝ }
 {
     match settled {
         Settled::Stays(light, walker) => Stage::Ending {
+            place: place,
             phase: phase,
             then: then,
             light: light,
             walker: walker,
         },
-        Settled::Over => enter(call, then),
+        Settled::Over => enter(call, place, then),
     }
 }
 
 fn settle_ending(
     sheet: Sheet,
     call: bool,
+    place: Place,
     phase: u32,
     then: Then,
     light: Light,
     walker: Walker,
 ) -> Stage
-    ensures { λ r. ⌜ r ≡ settleEnding sheet call phase then light walker ⌝ }
+    ensures { λ r. ⌜ r ≡ settleEnding sheet call place phase then light walker ⌝ }
 {
     let p = lookup::phase_of(sheet, phase);
-    settled_as(call, phase, then, ending::settle_phase(p, light, walker))
+    settled_as(
+        call,
+        place,
+        phase,
+        then,
+        ending::settle_phase(p, light, walker),
+    )
 }
 
 // Every change due is made.
@@ -111,18 +123,20 @@ fn settle(t: Lengths, sheet: Sheet, call: bool, stage: Stage) -> Stage
         Stage::TrackYellow { place, then, spent } => settle_yellow(t, call, place, then, spent),
         Stage::TrackRed { place, then, spent } => settle_red(t, call, place, then, spent),
         Stage::Open {
+            place: _,
             phase: _,
             green: _,
             walk: _,
         } => stage,
         Stage::Ending {
+            place,
             phase,
             then,
             light,
             walker,
-        } => settle_ending(sheet, call, phase, then, light, walker),
+        } => settle_ending(sheet, call, place, phase, then, light, walker),
         Stage::ClearanceGreen { spent } => settle_green(t, call, spent),
-        Stage::Dwell => stage,
+        Stage::AllRed => stage,
     }
 }
 
@@ -151,7 +165,20 @@ fn count_after(t: Lengths, call: bool, counted: bool, end: Stage, count: u64) ->
     count
 }
 
-// The transfer begins.
+// A phase is ending, and clearance green is owed.
+fn owed(place: Place, phase: u32, light: Light, walker: Walker) -> Stage
+    ensures { λ r. ⌜ r ≡ Ending place phase ToClearance light walker ⌝ }
+{
+    Stage::Ending {
+        place: place,
+        phase: phase,
+        then: Then::ToClearance,
+        light: light,
+        walker: walker,
+    }
+}
+
+// The transfer begins: an unended phase is asked to end, and no new phase starts.
 fn answered(stage: Stage) -> Stage
     ensures { λ r. ⌜ r ≡ answered stage ⌝ }
 {
@@ -175,25 +202,77 @@ fn answered(stage: Stage) -> Stage
             then: Then::ToClearance, // after red
             spent: spent,
         },
-        Stage::Open { phase, green, walk } => Stage::Ending {
-            phase: phase,
-            then: Then::ToClearance, // an unended phase is asked
-            light: Light::Green(green),
-            walker: Walker::Walk(walk),
-        },
+        Stage::Open {
+            place,
+            phase,
+            green,
+            walk,
+        } => owed(place, phase, Light::Green(green), Walker::Walk(walk)),
         Stage::Ending {
+            place,
             phase,
             then: _,
             light,
             walker,
-        } => Stage::Ending {
+        } => owed(place, phase, light, walker),
+        Stage::ClearanceGreen { spent: _ } => Stage::ClearanceGreen { spent: 0 },
+        Stage::AllRed => Stage::ClearanceGreen { spent: 0 },
+    }
+}
+
+// What was next is dropped, but for a clearance green that is owed.
+fn unless_owed(then: Then) -> Then
+    ensures { λ r. ⌜ r ≡ unlessOwed then ⌝ }
+{
+    match then {
+        Then::ToTrack => then,
+        Then::ToPhase(_) => Then::ToTrack,
+        Then::ToClearance => then,
+        Then::ToAllRed => Then::ToTrack,
+        Then::ToDwell => Then::ToTrack,
+    }
+}
+
+// A phase of dwell is asked to end.
+fn open_dropped(place: Place, phase: u32, green: u64, walk: u64) -> Stage
+    ensures { λ r. ⌜ r ≡ openDropped phase green walk place ⌝ }
+{
+    match place {
+        Place::Normal => Stage::Open {
+            place: place,
             phase: phase,
-            then: Then::ToClearance,
+            green: green,
+            walk: walk,
+        },
+        Place::Train => Stage::Ending {
+            place: place,
+            phase: phase,
+            then: Then::ToTrack,
+            light: Light::Green(green),
+            walker: Walker::Walk(walk),
+        },
+    }
+}
+
+// One that is ending goes on, and normal track green follows it.
+fn ending_dropped(place: Place, phase: u32, then: Then, light: Light, walker: Walker) -> Stage
+    ensures { λ r. ⌜ r ≡ endingDropped phase then light walker place ⌝ }
+{
+    match place {
+        Place::Normal => Stage::Ending {
+            place: place,
+            phase: phase,
+            then: then,
             light: light,
             walker: walker,
         },
-        Stage::ClearanceGreen { spent: _ } => Stage::ClearanceGreen { spent: 0 },
-        Stage::Dwell => Stage::ClearanceGreen { spent: 0 },
+        Place::Train => Stage::Ending {
+            place: place,
+            phase: phase,
+            then: unless_owed(then),
+            light: light,
+            walker: walker,
+        },
     }
 }
 
@@ -214,18 +293,20 @@ fn dropped(stage: Stage) -> Stage
             spent: _,
         } => stage,
         Stage::Open {
-            phase: _,
-            green: _,
-            walk: _,
-        } => stage,
+            place,
+            phase,
+            green,
+            walk,
+        } => open_dropped(place, phase, green, walk),
         Stage::Ending {
-            phase: _,
-            then: _,
-            light: _,
-            walker: _,
-        } => stage,
+            place,
+            phase,
+            then,
+            light,
+            walker,
+        } => ending_dropped(place, phase, then, light, walker),
         Stage::ClearanceGreen { spent: _ } => stage,
-        Stage::Dwell => Stage::TrackGreen,
+        Stage::AllRed => Stage::TrackGreen,
     }
 }
 

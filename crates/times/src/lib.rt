@@ -7,6 +7,7 @@ use phase::Walker;
 use sheet::Phase;
 use sheet::Sheet;
 use stage::Lengths;
+use stage::Place;
 use stage::Stage;
 use stage::Then;
 
@@ -29,22 +30,31 @@ fn add_walker(p: Phase, walker: Walker) -> Walker
     }
 }
 
-fn add_open(sheet: Sheet, phase: u32, green: u64, walk: u64) -> Stage
-    ensures { λ r. ⌜ r ≡ addOpen sheet phase green walk ⌝ }
+fn add_open(sheet: Sheet, place: Place, phase: u32, green: u64, walk: u64) -> Stage
+    ensures { λ r. ⌜ r ≡ addOpen sheet place phase green walk ⌝ }
 {
     let p = lookup::phase_of(sheet, phase);
     Stage::Open {
+        place: place,
         phase: phase,
         green: intervals::one_more(green, intervals::green_time(p)),
         walk: intervals::one_more(walk, p.walk as u64),
     }
 }
 
-fn add_ending(sheet: Sheet, phase: u32, then: Then, light: Light, walker: Walker) -> Stage
-    ensures { λ r. ⌜ r ≡ addEnding sheet phase then light walker ⌝ }
+fn add_ending(
+    sheet: Sheet,
+    place: Place,
+    phase: u32,
+    then: Then,
+    light: Light,
+    walker: Walker,
+) -> Stage
+    ensures { λ r. ⌜ r ≡ addEnding sheet place phase then light walker ⌝ }
 {
     let p = lookup::phase_of(sheet, phase);
     Stage::Ending {
+        place: place,
         phase: phase,
         then: then,
         light: add_light(p, light),
@@ -68,16 +78,22 @@ pub fn add_one(t: Lengths, sheet: Sheet, stage: Stage) -> Stage
             then: then,
             spent: intervals::one_more(spent, t.track_red),
         },
-        Stage::Open { phase, green, walk } => add_open(sheet, phase, green, walk),
+        Stage::Open {
+            place,
+            phase,
+            green,
+            walk,
+        } => add_open(sheet, place, phase, green, walk),
         Stage::Ending {
+            place,
             phase,
             then,
             light,
             walker,
-        } => add_ending(sheet, phase, then, light, walker),
+        } => add_ending(sheet, place, phase, then, light, walker),
         Stage::ClearanceGreen { spent } => Stage::ClearanceGreen {
             spent: intervals::one_more(spent, t.l51),
         },
-        Stage::Dwell => stage,
+        Stage::AllRed => stage,
     }
 }

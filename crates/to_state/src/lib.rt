@@ -24,6 +24,7 @@ fn then_number(then: Then) -> u32
         Then::ToTrack => 0,
         Then::ToPhase(_) => 1,
         Then::ToClearance => 2,
+        Then::ToAllRed => 4,
         Then::ToDwell => 3,
     }
 }
@@ -35,6 +36,7 @@ fn next_number(then: Then) -> u32
         Then::ToTrack => 0,
         Then::ToPhase(n) => n,
         Then::ToClearance => 0,
+        Then::ToAllRed => 0,
         Then::ToDwell => 0,
     }
 }
@@ -94,12 +96,12 @@ fn track(kind: u32, place: Place, then: Then, spent: u64) -> State
     }
 }
 
-fn in_phase(kind: u32, phase: u32, then: Then, light: Light, walker: Walker) -> State
-    ensures { λ r. ⌜ r ≡ inPhase kind phase then light walker ⌝ }
+fn in_phase(kind: u32, place: Place, phase: u32, then: Then, light: Light, walker: Walker) -> State
+    ensures { λ r. ⌜ r ≡ inPhase kind place phase then light walker ⌝ }
 {
     State {
         kind: kind,
-        place: 0,
+        place: place_number(place),
         follows: then_number(then),
         next: next_number(then),
         phase: phase,
@@ -118,20 +120,27 @@ pub fn numbers_of(stage: Stage) -> State
         Stage::TrackGreen => track(0, Place::Normal, Then::ToTrack, 0),
         Stage::TrackYellow { place, then, spent } => track(1, place, then, spent),
         Stage::TrackRed { place, then, spent } => track(2, place, then, spent),
-        Stage::Open { phase, green, walk } => in_phase(
+        Stage::Open {
+            place,
+            phase,
+            green,
+            walk,
+        } => in_phase(
             3,
+            place,
             phase,
             Then::ToTrack,
             Light::Green(green),
             Walker::Walk(walk),
         ),
         Stage::Ending {
+            place,
             phase,
             then,
             light,
             walker,
-        } => in_phase(4, phase, then, light, walker),
+        } => in_phase(4, place, phase, then, light, walker),
         Stage::ClearanceGreen { spent } => track(5, Place::Normal, Then::ToTrack, spent),
-        Stage::Dwell => track(6, Place::Normal, Then::ToTrack, 0),
+        Stage::AllRed => track(6, Place::Normal, Then::ToTrack, 0),
     }
 }

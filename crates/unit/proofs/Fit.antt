@@ -16,6 +16,7 @@ use Rattle.flow.proofs.Fit as flow
 use Rattle.measured.specs.declared.Measured.{Measured}
 use Rattle.unit.specs.declared.Unit.{Unit}
 use Rattle.measured.specs.Measured.{lengthsOf, accepted, measureOf}
+use Rattle.measured.proofs.Named.{named-listed}
 use Rattle.fitting.specs.Fitting.{fitsBy}
 use Rattle.unit.specs.Unit.{nowOf, holding, fits, tickOf, fresh}
 
@@ -52,4 +53,4 @@ tick-is u c call f = rw f refl
 
 pub onward-fits : (u : Unit) (c : Command) (call : Bool) → fits u ≡ true → fits (onward u c call) ≡ true
 onward-fits u c call f =
-    told-fits (u .sheet) _ (fits-sheet u f) (flow.fits-kept (lengthsOf (u .sheet)) (u .sheet) (nowOf u) c call (fits-told u f))
+    told-fits (u .sheet) _ (fits-sheet u f) (flow.fits-kept (lengthsOf (u .sheet)) (u .sheet) (named-listed (u .sheet) (fits-sheet u f)) (nowOf u) c call (fits-told u f))

@@ -13,7 +13,7 @@ use Rattle.sheet.specs.Refusals.{isFine, orElse, unless}
 use Rattle.sheet.proofs.Answers.{both-fine, fine-or, bad-or, passes, is-fine}
 use Rattle.lines.specs.Worksheet.{worksheetOf}
 use Rattle.stage.specs.declared.Stage.{Stage}
-use Rattle.stage.specs.declared.Stage.the-variants.{TrackGreen, TrackYellow, TrackRed, Open, Ending, ClearanceGreen, Dwell}
+use Rattle.stage.specs.declared.Stage.the-variants.{TrackGreen, TrackYellow, TrackRed, Open, Ending, ClearanceGreen, AllRed}
 use Rattle.stage.specs.Shown.{resting}
 use Rattle.unit.specs.declared.Unit.{Unit}
 use Rattle.measured.specs.Measured.{accepted}
@@ -27,10 +27,10 @@ unfolding resting
 at-rest TrackGreen count e = (refl, eqb-true count 0 e)
 at-rest (TrackYellow p z k) count e = never e
 at-rest (TrackRed p z k) count e = never e
-at-rest (Open n g w) count e = never e
-at-rest (Ending n z l w) count e = never e
+at-rest (Open p n g w) count e = never e
+at-rest (Ending p n z l w) count e = never e
 at-rest (ClearanceGreen k) count e = never e
-at-rest Dwell count e = never e
+at-rest AllRed count e = never e
 
 module _ (u : Unit) (s : Sheet) where
   pub loadable : loadAnswer u s ≡ Fine → Loadable u s

@@ -58,7 +58,7 @@ startOf s = restarted (worksheetOf s .answer) s (fresh zeroSheet)
 unfoldable pub placeAnswer : Unit → Sheet → Answer
 placeAnswer u s = placeBy (resting (u .stage) (u .count)) (u .sheet .issue) (s .issue)
 
--- "20 before all others"; then the sheet offered "meets 2 to 10 again .. before 11, 21 or 22"
+-- "20 before all others"; then the sheet offered "meets 2 to 10 again .. before 11, 21 or 22", and 12 "after 10"
 unfoldable pub loadAnswer : Unit → Sheet → Answer
 loadAnswer u s = answerBy (fits u) (worksheetOf s .answer) (placeAnswer u s)
 

@@ -8,8 +8,8 @@ use Rattle.commands.proofs.allowed_at.Tie as tie
 enum-told : tie.Need-enum-told
 enum-told c = search needs
 
-listed-requires : tie.Need-listed-requires
-listed-requires c κs = search needs
+may-start-requires : tie.Need-may-start-requires
+may-start-requires c κs = search needs
 
 enum-told-2 : tie.Need-enum-told-2
 enum-told-2 c = search needs
@@ -31,6 +31,9 @@ enum-told-5 c = search needs
 
 enum-told-6 : tie.Need-enum-told-6
 enum-told-6 c = search needs
+
+may-start-requires-2 : tie.Need-may-start-requires-2
+may-start-requires-2 c κs = search needs
 
 returns : tie.Need-returns
 unfolding allowedAt
@@ -65,7 +68,7 @@ allowed-at-spec =
     tie.close
     (tie.spec
     enum-told
-    listed-requires
+    may-start-requires
     enum-told-2
     enum-told-3
     enum-known-stage
@@ -73,6 +76,7 @@ allowed-at-spec =
     enum-told-4
     enum-told-5
     enum-told-6
+    may-start-requires-2
     returns
     returns-2
     returns-3

@@ -13,12 +13,12 @@ returns-2 : tie.Need-returns-2
 unfolding allowedIn
 returns-2 c = search steps
 
-listed-requires : tie.Need-listed-requires
-listed-requires c κs = search needs
+may-start-requires : tie.Need-may-start-requires
+may-start-requires c κs = search needs
 
 returns-3 : tie.Need-returns-3
 unfolding allowedIn
 returns-3 c = search steps
 
 pub allowed-in-spec : {M : Type 1} → statement M
-allowed-in-spec = tie.close (tie.spec returns returns-2 listed-requires returns-3)
+allowed-in-spec = tie.close (tie.spec returns returns-2 may-start-requires returns-3)

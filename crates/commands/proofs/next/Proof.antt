@@ -1,8 +1,12 @@
 -- `commands::next` meets its contract: test by test. Assumes nothing.
 use Rattle.units.proofs.Steps.{steps}
 use Rattle.stage.specs.Commands.{next}
+use borrow.Author.Needs.{needs}
 use Rattle.commands.proofs.next.Statement.{statement}
 use Rattle.commands.proofs.next.Tie as tie
+
+home-requires : tie.Need-home-requires
+home-requires c κs = search needs
 
 returns : tie.Need-returns
 unfolding next
@@ -13,4 +17,4 @@ unfolding next
 returns-2 c = search steps
 
 pub next-spec : {M : Type 1} → statement M
-next-spec = tie.close (tie.spec returns returns-2)
+next-spec = tie.close (tie.spec home-requires returns returns-2)

@@ -20,6 +20,9 @@ enum-told-2 c = search needs
 enum-told-3 : tie.Need-enum-told-3
 enum-told-3 c = search needs
 
+enum-told-4 : tie.Need-enum-told-4
+enum-told-4 c = search needs
+
 returns : tie.Need-returns
 unfolding thenFits
 returns c = search (arm2 thenFits, steps)
@@ -36,6 +39,10 @@ returns-4 : tie.Need-returns-4
 unfolding thenFits
 returns-4 c = search (arm2 thenFits, steps)
 
+returns-5 : tie.Need-returns-5
+unfolding thenFits
+returns-5 c = search (arm2 thenFits, steps)
+
 pub then-fits-spec : {M : Type 1} → statement M
 then-fits-spec =
     tie.close
@@ -45,7 +52,9 @@ then-fits-spec =
     listed-requires
     enum-told-2
     enum-told-3
+    enum-told-4
     returns
     returns-2
     returns-3
-    returns-4)
+    returns-4
+    returns-5)

@@ -19,6 +19,12 @@ place-of-requires-2 c κs = search needs
 then-of-requires-2 : tie.Need-then-of-requires-2
 then-of-requires-2 c κs = search needs
 
+place-of-requires-3 : tie.Need-place-of-requires-3
+place-of-requires-3 c κs = search needs
+
+place-of-requires-4 : tie.Need-place-of-requires-4
+place-of-requires-4 c κs = search needs
+
 then-of-requires-3 : tie.Need-then-of-requires-3
 then-of-requires-3 c κs = search needs
 
@@ -42,12 +48,13 @@ returns-3 c = rw (c .before .before .match .keys3, c .then-of2 .ensures, c .befo
 
 returns-4 : tie.Need-returns-4
 unfolding stageOf pick
-returns-4 c = rw (c .match .keys4) refl
+returns-4 c = rw (c .before .match .keys4, c .place-of3 .ensures) refl
 
 returns-5 : tie.Need-returns-5
 unfolding stageOf pick
 returns-5 c =
-    rw (c .before .before .before .match .keys5, c .walker-of .ensures, c .before .light-of .ensures, c .before .before .then-of3 .ensures) refl
+    rw (c .before .before .before .before .match .keys5, c .walker-of .ensures, c .before .light-of .ensures, c .before .before .then-of3 .ensures)
+    (rw (c .before .before .before .place-of4 .ensures) refl)
 
 returns-6 : tie.Need-returns-6
 unfolding stageOf pick
@@ -69,6 +76,8 @@ stage-of-spec =
     then-of-requires
     place-of-requires-2
     then-of-requires-2
+    place-of-requires-3
+    place-of-requires-4
     then-of-requires-3
     light-of-requires
     walker-of-requires

@@ -20,8 +20,12 @@ unfolding thenOf pick
 returns-3 c = rw (c .match .keys3) refl
 
 returns-4 : tie.Need-returns-4
+unfolding thenOf pick
+returns-4 c = rw (c .match .keys4) refl
+
+returns-5 : tie.Need-returns-5
 unfolding thenOf
-returns-4 c = search steps
+returns-5 c = search steps
 
 pub then-of-spec : {M : Type 1} → statement M
-then-of-spec = tie.close (tie.spec returns returns-2 returns-3 returns-4)
+then-of-spec = tie.close (tie.spec returns returns-2 returns-3 returns-4 returns-5)

@@ -20,20 +20,23 @@ enum-known-stage-2 c = search needs
 normal-before-requires-2 : tie.Need-normal-before-requires-2
 normal-before-requires-2 c κs = search needs
 
-enum-told-2 : tie.Need-enum-told-2
-enum-told-2 c = search needs
-
 enum-known-stage-3 : tie.Need-enum-known-stage-3
 enum-known-stage-3 c = search needs
+
+is-normal-requires : tie.Need-is-normal-requires
+is-normal-requires c κs = search needs
+
+enum-known-stage-4 : tie.Need-enum-known-stage-4
+enum-known-stage-4 c = search needs
 
 normal-before-requires-3 : tie.Need-normal-before-requires-3
 normal-before-requires-3 c κs = search needs
 
+enum-told-2 : tie.Need-enum-told-2
+enum-told-2 c = search needs
+
 enum-told-3 : tie.Need-enum-told-3
 enum-told-3 c = search needs
-
-enum-told-4 : tie.Need-enum-told-4
-enum-told-4 c = search needs
 
 returns : tie.Need-returns
 unfolding inNormal
@@ -72,11 +75,12 @@ in-normal-spec =
     normal-before-requires
     enum-known-stage-2
     normal-before-requires-2
-    enum-told-2
     enum-known-stage-3
+    is-normal-requires
+    enum-known-stage-4
     normal-before-requires-3
+    enum-told-2
     enum-told-3
-    enum-told-4
     returns
     returns-2
     returns-3

@@ -1,4 +1,4 @@
--- `shown::of` meets its contract, arm by arm. Assumes nothing.
+-- `shown::of` meets its contract: arm by arm. Assumes nothing.
 use Rattle.units.proofs.Steps.{steps, arm2}
 use Rattle.shown.specs.Shown.{shownOf}
 use borrow.Author.Needs.{needs}

@@ -4,8 +4,8 @@ use borrow.Author.Needs.{needs}
 use Rattle.shown.proofs.phase_shows.Statement.{statement}
 use Rattle.shown.proofs.phase_shows.Tie as tie
 
-lit-requires : tie.Need-lit-requires
-lit-requires c κs = search needs
+lit-in-requires : tie.Need-lit-in-requires
+lit-in-requires c κs = search needs
 
 phase-of-requires : tie.Need-phase-of-requires
 phase-of-requires c κs = search needs
@@ -14,7 +14,7 @@ walker-of-requires : tie.Need-walker-of-requires
 walker-of-requires c κs = search needs
 
 returns : tie.Need-returns
-returns c = rw (c .walker-of .ensures, c .before .phase-of .ensures, c .before .before .lit .ensures) refl
+returns c = rw (c .walker-of .ensures, c .before .phase-of .ensures, c .before .before .lit-in .ensures) refl
 
 pub phase-shows-spec : {M : Type 1} → statement M
-phase-shows-spec = tie.close (tie.spec lit-requires phase-of-requires walker-of-requires returns)
+phase-shows-spec = tie.close (tie.spec lit-in-requires phase-of-requires walker-of-requires returns)

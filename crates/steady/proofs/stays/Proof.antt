@@ -17,23 +17,23 @@ enum-told-2 c = search needs
 enum-told-3 : tie.Need-enum-told-3
 enum-told-3 c = search needs
 
+enum-known-stage : tie.Need-enum-known-stage
+enum-known-stage c = search needs
+
+stays-open-requires : tie.Need-stays-open-requires
+stays-open-requires c κs = search needs
+
 enum-told-4 : tie.Need-enum-told-4
 enum-told-4 c = search needs
 
-waits-requires-2 : tie.Need-waits-requires-2
-waits-requires-2 c κs = search needs
-
-enum-told-5 : tie.Need-enum-told-5
-enum-told-5 c = search needs
-
-enum-known-stage : tie.Need-enum-known-stage
-enum-known-stage c = search needs
+enum-known-stage-2 : tie.Need-enum-known-stage-2
+enum-known-stage-2 c = search needs
 
 below-requires : tie.Need-below-requires
 below-requires c κs = search needs
 
-enum-told-6 : tie.Need-enum-told-6
-enum-told-6 c = search needs
+enum-told-5 : tie.Need-enum-told-5
+enum-told-5 c = search needs
 
 returns : tie.Need-returns
 unfolding steadyIn
@@ -71,12 +71,12 @@ stays-spec =
     waits-requires
     enum-told-2
     enum-told-3
-    enum-told-4
-    waits-requires-2
-    enum-told-5
     enum-known-stage
+    stays-open-requires
+    enum-told-4
+    enum-known-stage-2
     below-requires
-    enum-told-6
+    enum-told-5
     returns
     returns-2
     returns-3

@@ -17,8 +17,14 @@ enum-known-stage-2 c = search needs
 enum-known-stage-3 : tie.Need-enum-known-stage-3
 enum-known-stage-3 c = search needs
 
+owed-requires : tie.Need-owed-requires
+owed-requires c κs = search needs
+
 enum-known-stage-4 : tie.Need-enum-known-stage-4
 enum-known-stage-4 c = search needs
+
+owed-requires-2 : tie.Need-owed-requires-2
+owed-requires-2 c κs = search needs
 
 enum-told-2 : tie.Need-enum-told-2
 enum-told-2 c = search needs
@@ -62,7 +68,9 @@ answered-spec =
     enum-known-stage
     enum-known-stage-2
     enum-known-stage-3
+    owed-requires
     enum-known-stage-4
+    owed-requires-2
     enum-told-2
     enum-told-3
     returns

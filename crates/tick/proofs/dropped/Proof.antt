@@ -14,17 +14,23 @@ enum-told-2 c = search needs
 enum-told-3 : tie.Need-enum-told-3
 enum-told-3 c = search needs
 
+enum-known-stage : tie.Need-enum-known-stage
+enum-known-stage c = search needs
+
+open-dropped-requires : tie.Need-open-dropped-requires
+open-dropped-requires c κs = search needs
+
+enum-known-stage-2 : tie.Need-enum-known-stage-2
+enum-known-stage-2 c = search needs
+
+ending-dropped-requires : tie.Need-ending-dropped-requires
+ending-dropped-requires c κs = search needs
+
 enum-told-4 : tie.Need-enum-told-4
 enum-told-4 c = search needs
 
 enum-told-5 : tie.Need-enum-told-5
 enum-told-5 c = search needs
-
-enum-told-6 : tie.Need-enum-told-6
-enum-told-6 c = search needs
-
-enum-told-7 : tie.Need-enum-told-7
-enum-told-7 c = search needs
 
 returns : tie.Need-returns
 unfolding dropped
@@ -61,10 +67,12 @@ dropped-spec =
     enum-told
     enum-told-2
     enum-told-3
+    enum-known-stage
+    open-dropped-requires
+    enum-known-stage-2
+    ending-dropped-requires
     enum-told-4
     enum-told-5
-    enum-told-6
-    enum-told-7
     returns
     returns-2
     returns-3

@@ -1,5 +1,5 @@
 -- `tick::settled_as` meets its contract: arm by arm. Assumes nothing.
-use Rattle.units.proofs.Steps.{steps, arm4}
+use Rattle.units.proofs.Steps.{steps, arm5}
 use Rattle.flow.specs.Settling.{settledAs}
 use borrow.Author.Needs.{needs}
 use Rattle.tick.proofs.settled_as.Statement.{statement}
@@ -16,11 +16,11 @@ enter-requires c κs = search needs
 
 returns : tie.Need-returns
 unfolding settledAs
-returns c = search (arm4 settledAs, steps)
+returns c = search (arm5 settledAs, steps)
 
 returns-2 : tie.Need-returns-2
 unfolding settledAs
-returns-2 c = search (arm4 settledAs, steps)
+returns-2 c = search (arm5 settledAs, steps)
 
 pub settled-as-spec : {M : Type 1} → statement M
 settled-as-spec =

@@ -4,6 +4,9 @@ use borrow.Author.Needs.{needs}
 use Rattle.to_state.proofs.in_phase.Statement.{statement}
 use Rattle.to_state.proofs.in_phase.Tie as tie
 
+place-number-requires : tie.Need-place-number-requires
+place-number-requires c κs = search needs
+
 then-number-requires : tie.Need-then-number-requires
 then-number-requires c κs = search needs
 
@@ -23,12 +26,13 @@ walker-time-requires : tie.Need-walker-time-requires
 walker-time-requires c κs = search needs
 
 returns : tie.Need-returns
-returns c = rw (c .walker-time .ensures, c .before .walker-number .ensures, c .before .before .light-time .ensures, c .before .before .before .light-number .ensures, c .before .before .before .before .next-number .ensures, c .before .before .before .before .before .then-number .ensures) refl
+returns c = rw (c .walker-time .ensures, c .before .walker-number .ensures, c .before .before .light-time .ensures, c .before .before .before .light-number .ensures, c .before .before .before .before .next-number .ensures, c .before .before .before .before .before .then-number .ensures, c .before .before .before .before .before .before .place-number .ensures) refl
 
 pub in-phase-spec : {M : Type 1} → statement M
 in-phase-spec =
     tie.close
     (tie.spec
+    place-number-requires
     then-number-requires
     next-number-requires
     light-number-requires

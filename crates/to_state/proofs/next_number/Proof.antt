@@ -17,6 +17,9 @@ enum-told-2 c = search needs
 enum-told-3 : tie.Need-enum-told-3
 enum-told-3 c = search needs
 
+enum-told-4 : tie.Need-enum-told-4
+enum-told-4 c = search needs
+
 returns : tie.Need-returns
 unfolding nextNumber
 returns c = search (arm nextNumber, steps)
@@ -33,6 +36,10 @@ returns-4 : tie.Need-returns-4
 unfolding nextNumber
 returns-4 c = search (arm nextNumber, steps)
 
+returns-5 : tie.Need-returns-5
+unfolding nextNumber
+returns-5 c = search (arm nextNumber, steps)
+
 pub next-number-spec : {M : Type 1} → statement M
 next-number-spec =
     tie.close
@@ -41,7 +48,9 @@ next-number-spec =
     enum-known-then
     enum-told-2
     enum-told-3
+    enum-told-4
     returns
     returns-2
     returns-3
-    returns-4)
+    returns-4
+    returns-5)
