@@ -1,5 +1,5 @@
 -- The lines of the instances' sheets, computed once, and the stages of their runs from what the sequence goes by, tick by tick. Assumes nothing.
-use Prim.Native.Nat.{ℕ}
+use Prim.Native.Nat.{ℕ, _+_}
 use mathlib.Core.Bool.{true, false}
 use mathlib.Core.List.{List, [], _∷_, _++_}
 use mathlib.Core.Path.{_≡_, refl}
@@ -7,12 +7,13 @@ use Rattle.units.specs.Numbers.{up, pick}
 use Rattle.sheet.specs.declared.Answer.the-variants.{Fine, Refused}
 use Rattle.sheet.specs.declared.Refusal.the-variants.{ClearanceTooShort, TrackLongerThanTransfer}
 use Rattle.sheet.specs.declared.Sheet.{Sheet}
+use Rattle.sheet.specs.Entries.{isIn}
 use Rattle.sheet.specs.Refusals.{orElse, unless}
 use Rattle.transfer.specs.Transfer.{pedestrianTime, timeOf, worseOf, worstFrom}
-use Rattle.rows.specs.Table.{kindOf, rangesOf, widthOf, placeOf, inRange, inRanges, present}
+use Rattle.rows.specs.Table.{kindOf, formOf, rangesOf, widthOf, placeOf, usedRanges, inRange, inRanges, present}
 use Rattle.numbers.specs.Flat.{gradeNumber, numbersFrom, flatOf}
-use Rattle.faults.specs.Lines.{quietInModeZero, clearsYellowAndRed, phaseFault, startsAtZero, pointRises, beforePhase, pointFits, ruleFault, rowFault, hereFault, lineAfter, faultFrom}
-use Rattle.faults.specs.Whole.{wholeFault, acceptOf}
+use Rattle.faults.specs.Lines.{quietInModeZero, clearsYellowAndRed, phaseFault, startsAtZero, pointRises, beforePhase, pointFits, risesAfter, ruleFault, rowFault, hereFault, lineAfter, faultFrom}
+use Rattle.faults.specs.Whole.{listedIn, allListed, wholeFault, acceptOf}
 use Rattle.table.specs.Table.{table, entryOf}
 use Rattle.factor.specs.Factor.{climb, placeOn, rowOf, columnOf, mixOf, lineOf, tableOf, factorOf}
 use Rattle.curve.specs.Curve.{betweenOf, levelFrom, levelOf, gradedOf, accelerationOf}
@@ -21,27 +22,27 @@ use Rattle.lines.specs.Lines.{l03, l16, l17, l21, l22, l23, l24, l25, l29, l32,
 use Rattle.lines.specs.Worksheet.{worksheetOf}
 use Rattle.phase.specs.Times.{oneMore, addLight, addWalker}
 use Rattle.phase.specs.Ending.{afterWalk, walkOver, clearanceOver, greenOver, afterGreen, afterYellow, phaseOver, overOrStays}
-use Rattle.phase.specs.declared.Light.the-variants.{Red}
-use Rattle.phase.specs.declared.Walker.the-variants.{Clearance}
+use Rattle.phase.specs.declared.Light.the-variants.{Green, Red}
+use Rattle.phase.specs.declared.Walker.the-variants.{Walk, Clearance}
 use Rattle.stage.specs.declared.Command.the-variants.{None}
 use Rattle.stage.specs.declared.Lengths.{Lengths}
 use Rattle.stage.specs.declared.Place.the-variants.{Normal, Train}
 use Rattle.stage.specs.declared.Stage.{Stage}
-use Rattle.stage.specs.declared.Stage.the-variants.{TrackGreen, TrackYellow, TrackRed, Ending, ClearanceGreen}
-use Rattle.stage.specs.declared.Then.the-variants.{ToClearance, ToDwell}
-use Rattle.stage.specs.Commands.{allowedIn, allowedAt, allowed, next, ended, obeyed}
+use Rattle.stage.specs.declared.Stage.the-variants.{TrackGreen, TrackYellow, TrackRed, Ending, ClearanceGreen, AllRed}
+use Rattle.stage.specs.declared.Then.the-variants.{ToTrack, ToClearance, ToDwell}
+use Rattle.stage.specs.Commands.{mayStart, allowedIn, allowedAt, allowed, home, next, ended, obeyed}
 use Rattle.stage.specs.Listed.{findIn, isAt, orZero}
-use Rattle.stage.specs.Shown.{inNormal, normalBefore, staysNormal}
+use Rattle.stage.specs.Shown.{inNormal, isNormal, normalBefore, staysNormal}
 use Rattle.stage.specs.Times.{addOne}
 use Rattle.flow.specs.declared.Now.{Now}
-use Rattle.flow.specs.Calls.{counting, countTo, countAfter, answered, dropped, becomes, begins, called, overdue}
+use Rattle.flow.specs.Calls.{counting, countTo, countAfter, answered, unlessOwed, openDropped, endingDropped, dropped, becomes, begins, called, overdue}
 use Rattle.flow.specs.Settling.{enter, settleRed, settleYellow, settleGreen, settledAs, settle}
 use Rattle.flow.specs.Promises.{now}
 use Rattle.flow.specs.Tick.{heard, ticked}
 use Rattle.unit.specs.Runs.{Event, tick}
 use Rattle.measured.specs.Measured.{lengthsOf, accepted}
 use Rattle.promises.specs.Demand.{upTo}
-use Rattle.instances.specs.Instances.{calls, towardsFour, varied, tight, advanced, stepped, ownLengths, clearsBy, phasesOf, asYellowStarts}
+use Rattle.instances.specs.Instances.{calls, towardsFour, naming, tight, advanced, sideStreets, asItGoesOff, ticksBack, stepped, ownLengths, clearsBy, phasesOf, asYellowStarts}
 
 -- what the sequence goes by on the paper's sheet, with line 51 left open
 abbrev pub going : ℕ → Lengths
@@ -86,6 +87,8 @@ pub record Worked : Type 0 where
   pub hit-l54 : worksheetOf (advanced 296) .lines .l54 .0 ≡ 77
   pub hit-l60 : worksheetOf (advanced 296) .lines .l60 .0 ≡ 78
   pub hit-l61 : worksheetOf (advanced 296) .lines .l61 .0 ≡ 297
+  pub side-goes : Goes sideStreets paper
+  pub side-l16 : worksheetOf sideStreets .lines .l16 .0 ≡ ticksBack
   pub six-beside : acceptOf (clearsBy 55) ≡ Fine
   pub six-refused : acceptOf (clearsBy 54) ≡ Refused ClearanceTooShort 8
   pub six-l17 : l17 (clearsBy 54) .0 ≡ 126
@@ -96,7 +99,7 @@ pub record Worked : Type 0 where
   pub ten-lengths : ownLengths (phasesOf 9) ≡ paper
 
 pub worked : Worked
-unfolding up pick orElse unless pedestrianTime timeOf worseOf worstFrom kindOf rangesOf widthOf placeOf inRange inRanges present gradeNumber numbersFrom flatOf quietInModeZero clearsYellowAndRed phaseFault startsAtZero pointRises beforePhase pointFits ruleFault rowFault hereFault lineAfter faultFrom wholeFault acceptOf table entryOf climb placeOn rowOf columnOf mixOf lineOf tableOf factorOf betweenOf levelFrom levelOf gradedOf accelerationOf l03 l16 l17 l21 l22 l23 l24 l25 l29 l32 l34 l35 l36 l38 l40 l41 l43 l44 l45 l46 l48 l49 l50 l51 l52 l53 l54 l55 l59 l60 l61 linesOf worksheetOf sheetWith varied
+unfolding up pick orElse unless pedestrianTime timeOf worseOf worstFrom kindOf formOf rangesOf widthOf placeOf usedRanges inRange inRanges present gradeNumber numbersFrom flatOf quietInModeZero clearsYellowAndRed phaseFault startsAtZero pointRises beforePhase pointFits risesAfter ruleFault rowFault hereFault lineAfter faultFrom listedIn allListed wholeFault acceptOf table entryOf climb placeOn rowOf columnOf mixOf lineOf tableOf factorOf betweenOf levelFrom levelOf gradedOf accelerationOf l03 l16 l17 l21 l22 l23 l24 l25 l29 l32 l34 l35 l36 l38 l40 l41 l43 l44 l45 l46 l48 l49 l50 l51 l52 l53 l54 l55 l59 l60 l61 linesOf worksheetOf sheetWith naming
 worked =
     record {
       paper-goes = record { fine = refl; lengths = refl };
@@ -122,6 +125,8 @@ worked =
       hit-l54 = refl;
       hit-l60 = refl;
       hit-l61 = refl;
+      side-goes = record { fine = refl; lengths = refl };
+      side-l16 = refl;
       six-beside = refl;
       six-refused = refl;
       six-l17 = refl;
@@ -141,7 +146,7 @@ shown t s past es = stepped t s (before t s past) es .stage
 
 -- on a sheet with the paper's phase 4: met as it begins, whatever line 51 is
 pub record Four (s : Sheet) (t : Lengths) : Type 0 where
-  pub at-226 : shown t s towardsFour (upTo 226 (calls 227)) ≡ Ending 4 ToClearance (Red 19) (Clearance 100)
+  pub at-226 : shown t s towardsFour (upTo 226 (calls 227)) ≡ Ending Normal 4 ToClearance (Red 19) (Clearance 100)
   pub at-227 : shown t s towardsFour (upTo 227 (calls 227)) ≡ ClearanceGreen 0
   pub normal : inNormal (before t s towardsFour .stage) ≡ true
 
@@ -160,13 +165,17 @@ pub record Walked : Type 0 where
   pub tight-four : Four tight tightly
   pub spared-four : Four (advanced 297) longer
   pub hit-four : Four (advanced 296) longer
-  pub six-126 : shown paper (clearsBy 54) towardsFour (calls 126) ≡ Ending 4 ToClearance (Red 19) (Clearance 54)
+  pub side-552 : before paper sideStreets (calls 552) ≡ now AllRed 2
+  pub side-1 : stepped paper sideStreets (now AllRed 2) (upTo 1 asItGoesOff) .stage ≡ Ending Train 4 ToTrack (Green 0) (Walk 0)
+  pub side-last : stepped paper sideStreets (now AllRed 2) (upTo ticksBack asItGoesOff) .stage ≡ Ending Train 4 ToTrack (Red 19) (Clearance 100)
+  pub side-back : stepped paper sideStreets (now AllRed 2) (upTo (1 + ticksBack) asItGoesOff) .stage ≡ TrackGreen
+  pub six-126 : shown paper (clearsBy 54) towardsFour (calls 126) ≡ Ending Normal 4 ToClearance (Red 19) (Clearance 54)
   pub six-127 : shown paper (clearsBy 54) towardsFour (calls 127) ≡ ClearanceGreen 0
   pub ten-61 : shown paper (phasesOf 9) [] (asYellowStarts 59) ≡ TrackRed Normal ToClearance 19
   pub ten-62 : shown paper (phasesOf 9) [] (asYellowStarts 60) ≡ ClearanceGreen 0
 
 pub walked : Walked
-unfolding stepped pick oneMore addLight addWalker afterWalk walkOver clearanceOver greenOver afterGreen afterYellow phaseOver overOrStays findIn isAt orZero addOne allowedIn allowedAt allowed next ended obeyed inNormal normalBefore staysNormal counting countTo countAfter answered dropped becomes begins called overdue enter settleRed settleYellow settleGreen settledAs settle heard sheetWith varied
+unfolding stepped pick oneMore addLight addWalker afterWalk walkOver clearanceOver greenOver afterGreen afterYellow phaseOver overOrStays findIn isAt orZero addOne isIn mayStart allowedIn allowedAt allowed home next ended obeyed inNormal isNormal normalBefore staysNormal counting countTo countAfter answered unlessOwed openDropped endingDropped dropped becomes begins called overdue enter settleRed settleYellow settleGreen settledAs settle heard sheetWith naming
 walked =
     record {
       paper-1 = refl;
@@ -183,6 +192,10 @@ walked =
       tight-four = record { at-226 = refl; at-227 = refl; normal = refl };
       spared-four = record { at-226 = refl; at-227 = refl; normal = refl };
       hit-four = record { at-226 = refl; at-227 = refl; normal = refl };
+      side-552 = refl;
+      side-1 = refl;
+      side-last = refl;
+      side-back = refl;
       six-126 = refl;
       six-127 = refl;
       ten-61 = refl;

@@ -21,9 +21,9 @@ use Rattle.phase.specs.declared.Light.the-variants.{Red}
 use Rattle.phase.specs.declared.Walker.the-variants.{Clearance}
 use Rattle.stage.specs.declared.Command.the-variants.{None}
 use Rattle.stage.specs.declared.Lengths.{Lengths}
-use Rattle.stage.specs.declared.Place.the-variants.{Train}
+use Rattle.stage.specs.declared.Place.the-variants.{Normal, Train}
 use Rattle.stage.specs.declared.Stage.{Stage}
-use Rattle.stage.specs.declared.Stage.the-variants.{TrackGreen, TrackYellow, Ending, ClearanceGreen}
+use Rattle.stage.specs.declared.Stage.the-variants.{TrackGreen, TrackYellow, Ending, ClearanceGreen, AllRed}
 use Rattle.stage.specs.declared.Then.the-variants.{ToClearance, ToDwell}
 use Rattle.stage.specs.Shown.{inNormal}
 use Rattle.flow.specs.declared.Now.{Now}
@@ -36,7 +36,7 @@ use Rattle.unit.specs.Unit.{nowOf, holding, fits, fresh, restarted, startOf}
 use Rattle.unit.proofs.Fit.{fresh-fits, onward, tick-is, onward-fits}
 use Rattle.unit.proofs.Kept.{fits-kept}
 use Rattle.promises.specs.Demand.{line, line17, line51, line53, seenOn, MayBegin, CallOn, ticksIn, upTo, atEnd, Demanded}
-use Rattle.instances.specs.Instances.{calls, towardsFour, atTrack, beforeFour, MayBeginAt, StartsWith, MetInTrackGreen, MetInPhaseFour, tight, EndsAtForty, StartsAtSeventeen, advanced, JustSpared, JustHit, goesOff, MustStayOn, MustBegin, NotInTransfer, stepped, ownLengths, steppedAt, clearsBy, WithoutSix, phasesOf, asYellowStarts, WithoutTen}
+use Rattle.instances.specs.Instances.{calls, towardsFour, atTrack, beforeFour, MayBeginAt, StartsWith, MetInTrackGreen, MetInPhaseFour, tight, EndsAtForty, StartsAtSeventeen, advanced, JustSpared, JustHit, sideStreets, asItGoesOff, ticksBack, LeftAtSixteen, goesOff, MustStayOn, MustBegin, NotInTransfer, stepped, ownLengths, steppedAt, clearsBy, WithoutSix, phasesOf, asYellowStarts, WithoutTen}
 use Rattle.promises.proofs.Between.{Dark, dark}
 use Rattle.instances.proofs.Computed.{paper, tightly, longer, Goes, worked, before, shown, Four, walked}
 use Rattle.promises.proofs.Demand.{demand-3}
@@ -144,8 +144,8 @@ module _ (s : Sheet) (t : Lengths) (w : Goes s t) (f : Four s t) (l : 226 < t .l
   unfolding seenOn
   begins-before-four = may-begin s t w towardsFour tt refl (f .normal)
 
-  met-226 : atEnd (beforeFour s) (calls 227) 226 .stage ≡ Ending 4 ToClearance (Red 19) (Clearance 100)
-  met-226 = met-stage s t w towardsFour tt (calls 227) 226 (Ending 4 ToClearance (Red 19) (Clearance 100)) tt (f .at-226)
+  met-226 : atEnd (beforeFour s) (calls 227) 226 .stage ≡ Ending Normal 4 ToClearance (Red 19) (Clearance 100)
+  met-226 = met-stage s t w towardsFour tt (calls 227) 226 (Ending Normal 4 ToClearance (Red 19) (Clearance 100)) tt (f .at-226)
 
   met-227 : atEnd (beforeFour s) (calls 227) 227 .stage ≡ ClearanceGreen 0
   met-227 = met-stage s t w towardsFour tt (calls 227) 227 (ClearanceGreen 0) tt (f .at-227)
@@ -294,3 +294,19 @@ without-ten =
     let on : (es : List Event) → steppedAt (phasesOf 9) [] es ≡ shown paper (phasesOf 9) [] es =
     λ es. ap (λ (t : Lengths). shown t (phasesOf 9) [] es) (worked .ten-lengths) in
     (worked .ten-beside, worked .ten-refused, worked .ten-l17, on (asYellowStarts 59) ∙ walked .ten-61, on (asYellowStarts 60) ∙ walked .ten-62)
+
+-- ---- side streets
+module _ (n : ℕ) (st : Stage) (o : TicksOnly (upTo n asItGoesOff)) (h : stepped paper sideStreets (now AllRed 2) (upTo n asItGoesOff) .stage ≡ st) where
+  from-dwell : atEnd (run (startOf sideStreets .unit) (calls 552)) asItGoesOff n .stage ≡ st
+  from-dwell =
+      met-stage sideStreets paper (worked .side-goes) (calls 552) tt asItGoesOff n st o
+      (ap (λ (x : Now). stepped paper sideStreets x (upTo n asItGoesOff) .stage) (walked .side-552) ∙ h)
+
+pub left-at-sixteen : LeftAtSixteen
+left-at-sixteen = (
+  ap (λ (u : Unit). u .stage) (past-is sideStreets paper (worked .side-goes) (calls 552) tt) ∙ ap (λ (x : Now). x .stage) (walked .side-552),
+  line-is sideStreets paper (worked .side-goes) (calls 552) tt (λ l. l .l16) ticksBack (worked .side-l16),
+  from-dwell 1 _ tt (walked .side-1),
+  from-dwell ticksBack _ tt (walked .side-last),
+  from-dwell (1 + ticksBack) _ tt (walked .side-back),
+)

@@ -1,5 +1,6 @@
 -- The definitions of Demand.antt, run: the paper's two examples, a sheet on which every bound of demand 3 is met with equality, two on which the
--- trailer is just spared and just hit, and two that refusals 6 and 10 keep out, on which the green would come after line 17.
+-- trailer is just spared and just hit, one on which dwell is left line 16 after the call went off, and two that refusals 6 and 10 keep out, on which
+-- the green would come after line 17.
 use Prim.Native.Nat.{ℕ, _+_, _≤_}
 use mathlib.Core.Bool.{true, false}
 use mathlib.Core.List.{List, [], _∷_, _++_}
@@ -14,14 +15,14 @@ use Rattle.faults.specs.Whole.{acceptOf}
 use Rattle.rules.specs.Rules.{ticks}
 use Rattle.lines.specs.Cases.{paperSheet}
 use Rattle.lines.specs.Lines.{l03, l17, l51}
-use Rattle.phase.specs.declared.Light.the-variants.{Red}
-use Rattle.phase.specs.declared.Walker.the-variants.{Clearance}
+use Rattle.phase.specs.declared.Light.the-variants.{Green, Red}
+use Rattle.phase.specs.declared.Walker.the-variants.{Walk, Clearance}
 use Rattle.stage.specs.declared.Command.the-variants.{None, End}
 use Rattle.stage.specs.declared.Lengths.{Lengths}
 use Rattle.stage.specs.declared.Place.the-variants.{Normal, Train}
 use Rattle.stage.specs.declared.Stage.{Stage}
-use Rattle.stage.specs.declared.Stage.the-variants.{TrackGreen, TrackYellow, TrackRed, Ending, ClearanceGreen}
-use Rattle.stage.specs.declared.Then.the-variants.{ToClearance, ToDwell}
+use Rattle.stage.specs.declared.Stage.the-variants.{TrackGreen, TrackYellow, TrackRed, Ending, ClearanceGreen, AllRed}
+use Rattle.stage.specs.declared.Then.the-variants.{ToTrack, ToClearance, ToDwell}
 use Rattle.flow.specs.declared.Now.{Now}
 use Rattle.flow.specs.Promises.{now}
 use Rattle.flow.specs.Tick.{ticked}
@@ -29,6 +30,7 @@ use Rattle.unit.specs.declared.Unit.{Unit}
 use Rattle.unit.specs.Runs.{Event, tick, load, run}
 use Rattle.unit.specs.Unit.{startOf}
 use Rattle.promises.specs.Demand.{line3, line17, line25, line28, line34, line35, line36, line40, line51, line53, line54, line60, line61, MayBegin, atEnd, Demanded}
+use Rattle.promises.specs.Dwell.{line16}
 
 -- that many ticks with the call on, and no command
 abbrev pub calls : ℕ → List Event
@@ -67,17 +69,17 @@ MetInTrackGreen =
 abbrev pub MetInPhaseFour : Type 0
 MetInPhaseFour =
     MayBeginAt paperSheet towardsFour
-    × (atEnd (beforeFour paperSheet) (calls 227) 226 .stage ≡ Ending 4 ToClearance (Red 19) (Clearance 100))
+    × (atEnd (beforeFour paperSheet) (calls 227) 226 .stage ≡ Ending Normal 4 ToClearance (Red 19) (Clearance 100))
     × (atEnd (beforeFour paperSheet) (calls 227) 227 .stage ≡ ClearanceGreen 0)
     × StartsWith (beforeFour paperSheet) (calls 227) 227
 
--- ---- the paper's sheet with other phases, l33 and l39
+-- ---- the paper's sheet with other numbers for dwell, phases, l33 and l39
 abbrev phase : ℕ → ℕ → ℕ → ℕ → ℕ → ℕ → ℕ → ℕ → Phase
 phase n g o y r w c m =
     record { number = n; green = g; other = o; yellow = y; red = r; walk = w; clearance = c; mode = m }
 
-unfoldable pub varied : Phase → Phase → ℕ → ℕ → Sheet
-varied first second l33 l39 =
+unfoldable pub naming : ℕ → List ℕ → Phase → Phase → ℕ → ℕ → Sheet
+naming count dwell first second l33 l39 =
     record {
       issue = paperSheet .issue;
       vehicle = paperSheet .vehicle;
@@ -88,6 +90,8 @@ varied first second l33 l39 =
       phases = first ∷ (second ∷ replicate 6 zeroPhase);
       «track_yellow» = paperSheet .«track_yellow»;
       «track_red» = paperSheet .«track_red»;
+      «dwell_count» = count;
+      dwell = dwell;
       l18 = paperSheet .l18;
       l19 = paperSheet .l19;
       l20 = paperSheet .l20;
@@ -104,6 +108,9 @@ varied first second l33 l39 =
       «point_count» = paperSheet .«point_count»;
       points = paperSheet .points;
     }
+
+abbrev pub varied : Phase → Phase → ℕ → ℕ → Sheet
+varied first second l33 l39 = naming (paperSheet .«dwell_count») (paperSheet .dwell) first second l33 l39
 
 -- ---- every bound is met with equality
 abbrev pub tight : Sheet
@@ -140,6 +147,27 @@ JustHit =
     MayBeginAt (advanced 296) towardsFour × StartsWith u (calls 227) (line17 u) × (line61 u ≡ line36 u + 1)
     × (((lights gate gone : ℕ) → line36 u ≤ lights → lights + line60 u ≤ gate → gone ≤ line17 u + line53 u + line54 u → gone ≤ gate) → ⊥)
 
+-- ---- side streets: the paper's sheet, with both its phases named for dwell, which begins with tick 552. The call goes off as phase 4 starts
+abbrev pub sideStreets : Sheet
+sideStreets = naming 2 (2 ∷ (4 ∷ replicate 6 0)) (phase 2 50 0 40 15 0 0 0) (phase 4 40 0 35 20 70 100 1) 270 150
+
+abbrev pub inDwell : Unit
+inDwell = run (startOf sideStreets .unit) (calls 552)
+
+abbrev pub asItGoesOff : List Event
+asItGoesOff = tick (End 4) false ∷ replicate 225 (tick None false)
+
+abbrev pub ticksBack : ℕ
+ticksBack = 225
+
+-- normal track green is back that many ticks after the first, which is line 16, and not before
+abbrev pub LeftAtSixteen : Type 0
+LeftAtSixteen =
+    (inDwell .stage ≡ AllRed) × (line16 inDwell ≡ ticksBack)
+    × (atEnd inDwell asItGoesOff 1 .stage ≡ Ending Train 4 ToTrack (Green 0) (Walk 0))
+    × (atEnd inDwell asItGoesOff ticksBack .stage ≡ Ending Train 4 ToTrack (Red 19) (Clearance 100))
+    × (atEnd inDwell asItGoesOff (1 + ticksBack) .stage ≡ TrackGreen)
+
 -- ---- what the words of demand 3 keep out, on the paper's sheet: there is no such green for
 -- a call that goes off after its first tick
 abbrev pub goesOff : List Event
@@ -175,7 +203,7 @@ clearsBy clearance = varied (phase 2 50 0 40 15 0 0 0) (phase 4 40 0 35 20 70 cl
 abbrev pub WithoutSix : Type 0
 WithoutSix =
     (acceptOf (clearsBy 55) ≡ Fine) × (acceptOf (clearsBy 54) ≡ Refused ClearanceTooShort 8) × (ticks (l17 (clearsBy 54)) ≡ 126)
-    × (steppedAt (clearsBy 54) towardsFour (calls 126) ≡ Ending 4 ToClearance (Red 19) (Clearance 54))
+    × (steppedAt (clearsBy 54) towardsFour (calls 126) ≡ Ending Normal 4 ToClearance (Red 19) (Clearance 54))
     × (steppedAt (clearsBy 54) towardsFour (calls 127) ≡ ClearanceGreen 0)
 
 -- 10: "track yellow + red above line 16", by one tick. A call that finds track yellow just begun waits for both

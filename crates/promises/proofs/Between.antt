@@ -9,7 +9,7 @@ use Rattle.sheet.specs.declared.Sheet.{Sheet}
 use Rattle.sheet.specs.Refusals.{isFine}
 use Rattle.sheet.proofs.Answers.{is-fine}
 use Rattle.stage.specs.declared.Stage.{Stage}
-use Rattle.stage.specs.declared.Stage.the-variants.{TrackGreen, TrackYellow, TrackRed, Open, Ending, ClearanceGreen, Dwell}
+use Rattle.stage.specs.declared.Stage.the-variants.{TrackGreen, TrackYellow, TrackRed, Open, Ending, ClearanceGreen, AllRed}
 use Rattle.stage.specs.declared.Command.{Command}
 use Rattle.unit.specs.declared.Unit.{Unit}
 use Rattle.unit.specs.Runs.{Event, tick, load, answerTo, run}
@@ -29,10 +29,10 @@ abbrev pub Dark : Stage → Type 0
 Dark TrackGreen = Prim.Unit {0}
 Dark (TrackYellow p z i) = Prim.Unit {0}
 Dark (TrackRed p z i) = Prim.Unit {0}
-Dark (Open n g w) = Prim.Unit {0}
-Dark (Ending n z l w) = Prim.Unit {0}
+Dark (Open p n g w) = Prim.Unit {0}
+Dark (Ending p n z l w) = Prim.Unit {0}
 Dark (ClearanceGreen j) = ⊥
-Dark Dwell = Prim.Unit {0}
+Dark AllRed = Prim.Unit {0}
 
 pub dark : (u : Unit) → Dark (u .stage) → ShowsGreen u → ⊥
 dark u d (k, e) = subst Dark e d
@@ -106,7 +106,7 @@ pub elsewhere-refuses : (u : Unit) (s : Sheet) → (u .stage ≡ TrackGreen → 
 elsewhere-refuses u s n = split (isFine (loadOf u s .answer)) (λ e. absurd (n (load-needs u s (is-fine _ e) .stage))) (λ e. e)
 
 module _ (u : Unit) (s : Sheet) (refused : isFine (loadOf u s .answer) ≡ false) (es : List Event) where
-  same-end : (n : ℕ) → atEnd u (load s ∷ es) n ≡ atEnd u es n
+  pub same-end : (n : ℕ) → atEnd u (load s ∷ es) n ≡ atEnd u es n
   unfolding run answerTo
   same-end zero = refl
   same-end (suc n) = ap (λ (w : Unit). run w (upTo (suc n) es)) (not-loaded u s refused)

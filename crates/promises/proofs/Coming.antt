@@ -1,5 +1,5 @@
 -- Where clearance green is owed each tick takes one off what is left of the stage, and then it shows, whatever command and call come; it shows for
--- line 51; and then, while the call stays on, none shows again. Assumes nothing.
+-- line 51; and then none is owed. Assumes nothing.
 use Prim.Native.Nat.{ℕ, suc, _+_, _≤_, _<_}
 use mathlib.Core.Bool.{Bool, true, false}
 use mathlib.Core.Path.{_≡_, refl, sym, ap, subst, _∙_}
@@ -24,23 +24,23 @@ use Rattle.phase.proofs.Left.{Left, tick-left, left-none, ends-from, settle-lef
 use Rattle.stage.specs.declared.Command.{Command}
 use Rattle.stage.specs.declared.Lengths.{Lengths}
 use Rattle.stage.specs.declared.Place.{Place}
-use Rattle.stage.specs.declared.Place.the-variants.{Normal, Train}
 use Rattle.stage.specs.declared.Stage.{Stage}
-use Rattle.stage.specs.declared.Stage.the-variants.{TrackGreen, TrackYellow, TrackRed, Open, Ending, ClearanceGreen, Dwell}
+use Rattle.stage.specs.declared.Stage.the-variants.{TrackGreen, TrackYellow, TrackRed, Open, Ending, ClearanceGreen, AllRed}
 use Rattle.stage.specs.declared.Then.{Then}
-use Rattle.stage.specs.declared.Then.the-variants.{ToTrack, ToPhase, ToClearance, ToDwell}
+use Rattle.stage.specs.declared.Then.the-variants.{ToClearance}
 use Rattle.stage.specs.Fitness.{thenFits, phaseFits, stageFits}
 use Rattle.stage.specs.Listed.{phaseOf}
-use Rattle.stage.specs.Shown.{inNormal, normalBefore, staysNormal}
+use Rattle.stage.specs.Shown.{inNormal}
 use Rattle.stage.specs.Times.{addOne}
 use Rattle.stage.proofs.Fit.{phase-told}
 use Rattle.flow.specs.declared.Now.{Now}
-use Rattle.flow.specs.Calls.{counting, answered, dropped, begins, called, overdue}
+use Rattle.flow.specs.Calls.{counting, answered, begins, called, overdue}
 use Rattle.flow.specs.Settling.{enter, settleRed, settleYellow, settleGreen, settledAs, settle}
 use Rattle.flow.specs.Tick.{afterTimes, afterCommand, afterCall, endOf}
 use Rattle.flow.specs.Promises.{now, Rests, phaseShown}
 use Rattle.flow.proofs.Rest.{kept, nothing-due}
-use Rattle.flow.proofs.Dwell.{uncounted, on-time}
+use Rattle.flow.proofs.Past.{Past, after-green, past-from}
+use Rattle.flow.proofs.Steps.{uncounted, on-time}
 use Rattle.flow.proofs.Transfer as flow
 use Rattle.measured.specs.Measured.{accepted}
 use Rattle.promises.proofs.Sheets.{listed-fair, listed-time}
@@ -54,10 +54,10 @@ abbrev pub Within : Lengths → Sheet → ℕ → Stage → Type 0
 Within t s k TrackGreen = ⊥
 Within t s k (TrackYellow p z i) = (z ≡ ToClearance) × (i < t .«track_yellow») × (t .«track_yellow» + t .«track_red» ≤ i + k)
 Within t s k (TrackRed p z i) = (z ≡ ToClearance) × (i < t .«track_red») × (t .«track_red» ≤ i + k)
-Within t s k (Open n g w) = ⊥
-Within t s k (Ending n z l w) = (z ≡ ToClearance) × Left (phaseOf s n) k (Stays l w)
+Within t s k (Open p n g w) = ⊥
+Within t s k (Ending p n z l w) = (z ≡ ToClearance) × Left (phaseOf s n) k (Stays l w)
 Within t s k (ClearanceGreen j) = ⊥
-Within t s k Dwell = ⊥
+Within t s k AllRed = ⊥
 
 -- with none left it would be over
 abbrev IsOver : Settled → Type 0
@@ -68,10 +68,10 @@ pub none-left : (t : Lengths) (s : Sheet) (st : Stage) → Within t s 0 st → �
 none-left t s TrackGreen h = h
 none-left t s (TrackYellow p z i) h = omega (arith, h .1, h .2)
 none-left t s (TrackRed p z i) h = omega (arith, h .1, h .2)
-none-left t s (Open n g w) h = h
-none-left t s (Ending n z l w) h = subst IsOver (sym (left-none (phaseOf s n) (Stays l w) (h .1))) tt
+none-left t s (Open p n g w) h = h
+none-left t s (Ending p n z l w) h = subst IsOver (sym (left-none (phaseOf s n) (Stays l w) (h .1))) tt
 none-left t s (ClearanceGreen j) h = h
-none-left t s Dwell h = h
+none-left t s AllRed h = h
 
 -- it shows, or comes within k ticks
 pub data Next (t : Lengths) (s : Sheet) (k : ℕ) : Stage → Type 0 where
@@ -82,10 +82,10 @@ within-coming : (t : Lengths) (s : Sheet) (k : ℕ) (st : Stage) → Within t s 
 within-coming t s k TrackGreen h = h
 within-coming t s k (TrackYellow p z i) h = h .0
 within-coming t s k (TrackRed p z i) h = h .0
-within-coming t s k (Open n g w) h = h
-within-coming t s k (Ending n z l w) h = (h .0, refl)
+within-coming t s k (Open p n g w) h = h
+within-coming t s k (Ending p n z l w) h = (h .0, refl)
 within-coming t s k (ClearanceGreen j) h = absurd h
-within-coming t s k Dwell h = h
+within-coming t s k AllRed h = h
 
 next-coming : (t : Lengths) (s : Sheet) (k : ℕ) (st : Stage) → Next t s k st → flow.Coming (phaseShown st) st
 next-coming t s k _ shown = refl
@@ -93,18 +93,18 @@ next-coming t s k st (within _ h) = within-coming t s k st h
 
 -- ---- the times
 module _ (t : Lengths) (s : Sheet) (call : Bool) where
-  owed-enter : (z : Then) → z ≡ ToClearance → enter call z ≡ ClearanceGreen 0
+  owed-enter : (p : Place) (z : Then) → z ≡ ToClearance → enter call p z ≡ ClearanceGreen 0
   unfolding enter
-  owed-enter z e = rw e refl
+  owed-enter p z e = rw e refl
 
-  enter-next : (k : ℕ) (z : Then) → z ≡ ToClearance → Next t s k (enter call z)
-  enter-next k z e = subst (Next t s k) (sym (owed-enter z e)) shown
+  enter-next : (k : ℕ) (p : Place) (z : Then) → z ≡ ToClearance → Next t s k (enter call p z)
+  enter-next k p z e = subst (Next t s k) (sym (owed-enter p z e)) shown
 
   red-next : (k : ℕ) (p : Place) (z : Then) (i : ℕ) → z ≡ ToClearance → t .«track_red» ≤ i + k → Next t s k (settleRed t call p z i)
   unfolding settleRed
   red-next k p z i o h =
-      cases (Next t s k) (leb (t .«track_red») i) (enter call z) (TrackRed p z i)
-      (λ e. enter-next k z o) (λ e. within (TrackRed p z i) (o, leb-false (t .«track_red») i e, h))
+      cases (Next t s k) (leb (t .«track_red») i) (enter call p z) (TrackRed p z i)
+      (λ e. enter-next k p z o) (λ e. within (TrackRed p z i) (o, leb-false (t .«track_red») i e, h))
 
   yellow-next : (k : ℕ) (p : Place) (z : Then) (i : ℕ) → z ≡ ToClearance → i ≤ t .«track_yellow» → t .«track_yellow» + t .«track_red» ≤ i + k
       → Next t s k (settleYellow t call p z i)
@@ -113,30 +113,30 @@ module _ (t : Lengths) (s : Sheet) (call : Bool) where
       cases (Next t s k) (leb (t .«track_yellow») i) (settleRed t call p z 0) (TrackYellow p z i)
       (λ e. red-next k p z 0 o (omega arith)) (λ e. within (TrackYellow p z i) (o, leb-false (t .«track_yellow») i e, h))
 
-  ending-next : (k n : ℕ) (z : Then) (x : Settled) → z ≡ ToClearance → Left (phaseOf s n) k x → Next t s k (settledAs call n z x)
+  ending-next : (k : ℕ) (p : Place) (n : ℕ) (z : Then) (x : Settled) → z ≡ ToClearance → Left (phaseOf s n) k x → Next t s k (settledAs call p n z x)
   unfolding settledAs
-  ending-next k n z (Stays l w) o h = within (Ending n z l w) (o, h)
-  ending-next k n z Over o h = enter-next k z o
+  ending-next k p n z (Stays l w) o h = within (Ending p n z l w) (o, h)
+  ending-next k p n z Over o h = enter-next k p z o
 
   next : (k : ℕ) (st : Stage) → Within t s (suc k) st → Next t s k (settle t s call (addOne t s st))
   unfolding addOne settle phases.tick
   next k TrackGreen h = absurd h
   next k (TrackYellow p z i) h = rw (up-one i (t .«track_yellow») (h .1)) (yellow-next k p z (i + 1) (h .0) (omega (arith, h .1)) (omega (arith, h .2)))
   next k (TrackRed p z i) h = rw (up-one i (t .«track_red») (h .1)) (red-next k p z (i + 1) (h .0) (omega (arith, h .2)))
-  next k (Open n g w) h = absurd h
-  next k (Ending n z l w) h = ending-next k n z _ (h .0) (tick-left (phaseOf s n) k (Stays l w) (h .1))
+  next k (Open p n g w) h = absurd h
+  next k (Ending p n z l w) h = ending-next k p n z _ (h .0) (tick-left (phaseOf s n) k (Stays l w) (h .1))
   next k (ClearanceGreen j) h = absurd h
-  next k Dwell h = absurd h
+  next k AllRed h = absurd h
 
 within-added : (t : Lengths) (s : Sheet) (k : ℕ) (st : Stage) → Within t s k st → flow.Coming (phaseShown st) (addOne t s st)
 unfolding addOne
 within-added t s k TrackGreen h = h
 within-added t s k (TrackYellow p z i) h = h .0
 within-added t s k (TrackRed p z i) h = h .0
-within-added t s k (Open n g w) h = h
-within-added t s k (Ending n z l w) h = (h .0, refl)
+within-added t s k (Open p n g w) h = h
+within-added t s k (Ending p n z l w) h = (h .0, refl)
 within-added t s k (ClearanceGreen j) h = absurd h
-within-added t s k Dwell h = h
+within-added t s k AllRed h = h
 
 -- ---- a tick of the stage in which it is owed
 module _ (t : Lengths) (s : Sheet) (c : Command) (call : Bool) (x : Now) (lasts : 0 < t .l51) where
@@ -182,95 +182,19 @@ module _ (t : Lengths) (s : Sheet) (c : Command) (i j : ℕ) where
       goes-on t s (now (ClearanceGreen j) i) (green-away j) c (ClearanceGreen (j + 1)) (ClearanceGreen (j + 1)) (green-later (omega arith)) (green-away (j + 1))
       (kept t s true (ClearanceGreen (j + 1)) h) tt h
 
--- ---- it has shown: track yellow and red follow, then dwell, and none is owed
-abbrev pub Shown : Stage → Type 0
-Shown TrackGreen = ⊥
-Shown (TrackYellow p z k) = z ≡ ToDwell
-Shown (TrackRed p z k) = z ≡ ToDwell
-Shown (Open n g w) = ⊥
-Shown (Ending n z l w) = ⊥
-Shown (ClearanceGreen k) = ⊥
-Shown Dwell = Prim.Unit {0}
-
-dwell-away : (p : Place) (z : Then) → z ≡ ToDwell → normalBefore p z ≡ false
-unfolding normalBefore staysNormal
-dwell-away Normal z e = ap staysNormal e
-dwell-away Train z e = refl
-
-shown-away : (st : Stage) → Shown st → inNormal st ≡ false
-unfolding inNormal
-shown-away TrackGreen h = absurd h
-shown-away (TrackYellow p z k) h = dwell-away p z h
-shown-away (TrackRed p z k) h = dwell-away p z h
-shown-away (Open n g w) h = absurd h
-shown-away (Ending n z l w) h = absurd h
-shown-away (ClearanceGreen k) h = absurd h
-shown-away Dwell h = refl
-
-shown-firm : (st : Stage) → Shown st → flow.Firm st
-shown-firm TrackGreen h = h
-shown-firm (TrackYellow p z k) h = tt
-shown-firm (TrackRed p z k) h = tt
-shown-firm (Open n g w) h = h
-shown-firm (Ending n z l w) h = tt
-shown-firm (ClearanceGreen k) h = tt
-shown-firm Dwell h = tt
-
-shown-later : (t : Lengths) (s : Sheet) (st : Stage) → Shown st → Shown (addOne t s st)
-unfolding addOne
-shown-later t s TrackGreen h = h
-shown-later t s (TrackYellow p z k) h = h
-shown-later t s (TrackRed p z k) h = h
-shown-later t s (Open n g w) h = h
-shown-later t s (Ending n z l w) h = h
-shown-later t s (ClearanceGreen k) h = absurd h
-shown-later t s Dwell h = h
-
-module _ (t : Lengths) (s : Sheet) where
-  enter-shown : (z : Then) → z ≡ ToDwell → Shown (enter true z)
-  unfolding enter pick
-  enter-shown z e = subst (λ (y : Then). Shown (enter true y)) (sym e) tt
-
-  red-shown : (p : Place) (z : Then) (k : ℕ) → z ≡ ToDwell → Shown (settleRed t true p z k)
-  unfolding settleRed
-  red-shown p z k e = cases Shown (leb (t .«track_red») k) (enter true z) (TrackRed p z k) (λ b. enter-shown z e) (λ b. e)
-
-  yellow-shown : (p : Place) (z : Then) (k : ℕ) → z ≡ ToDwell → Shown (settleYellow t true p z k)
-  unfolding settleYellow
-  yellow-shown p z k e =
-      cases Shown (leb (t .«track_yellow») k) (settleRed t true p z 0) (TrackYellow p z k) (λ b. red-shown p z 0 e) (λ b. e)
-
-  settle-shown : (st : Stage) → Shown st → Shown (settle t s true st)
-  unfolding settle
-  settle-shown TrackGreen h = h
-  settle-shown (TrackYellow p z k) h = yellow-shown p z k h
-  settle-shown (TrackRed p z k) h = red-shown p z k h
-  settle-shown (Open n g w) h = h
-  settle-shown (Ending n z l w) h = absurd h
-  settle-shown (ClearanceGreen k) h = absurd h
-  settle-shown Dwell h = h
-
-  -- the last tick of line 51
-  green-over : (k : ℕ) → t .l51 ≤ k → Shown (settle t s true (ClearanceGreen k))
+-- ---- the last tick of line 51: it has shown, and none is owed
+module _ (t : Lengths) (s : Sheet) (c : Command) where
+  green-over : (k : ℕ) → t .l51 ≤ k → Past ⊥ (settle t s true (ClearanceGreen k))
   unfolding settle settleGreen pick
-  green-over k h = rw (le-leb (t .l51) k h) (yellow-shown Train ToDwell 0 refl)
+  green-over k h = rw (le-leb (t .l51) k h) (after-green ⊥ t s)
 
-  module _ (lasts : 0 < t .l51) (c : Command) where
-    -- the stage comes to one in which green has shown
-    ends-shown : (x : Now) (later : Stage) → inNormal (x .stage) ≡ false → addOne t s (x .stage) ≡ later → inNormal later ≡ false
-        → Shown (settle t s true later) → Shown (endOf t s c true x)
-    ends-shown x later a e n h =
-        subst Shown (sym (goes-on t s x a c later (settle t s true later) e n refl (shown-firm (settle t s true later) h) (nothing-due t s true later lasts))) h
-
-    pub shown-tick : (x : Now) → Shown (x .stage) → Shown (endOf t s c true x)
-    shown-tick x h =
-        let l = shown-later t s (x .stage) h in
-        ends-shown x (addOne t s (x .stage)) (shown-away (x .stage) h) refl (shown-away (addOne t s (x .stage)) l) (settle-shown (addOne t s (x .stage)) l)
-
-    pub last-tick : (i j : ℕ) → j + 1 ≡ t .l51 → Shown (endOf t s c true (now (ClearanceGreen j) i))
-    last-tick i j e =
-        ends-shown (now (ClearanceGreen j) i) (ClearanceGreen (j + 1)) (green-away j) (green-later t s c i j (omega arith)) (green-away (j + 1))
-        (green-over (j + 1) (omega arith))
+  pub last-tick : (i j : ℕ) → j + 1 ≡ t .l51 → Past ⊥ (endOf t s c true (now (ClearanceGreen j) i))
+  last-tick i j e =
+      let x = now (ClearanceGreen j) i in
+      let first : afterTimes t s true x ≡ settle t s true (ClearanceGreen (j + 1)) =
+      ap (λ (v : Stage). settle t s true (overdue t i v)) (green-later t s c i j (omega arith))
+      ∙ ap (settle t s true) (on-time t i (ClearanceGreen (j + 1)) (green-away (j + 1))) in
+      past-from ⊥ t s c x (green-away j) (subst (Past ⊥) (sym first) (green-over (j + 1) (omega arith)))
 
 -- ---- the tick on which the call has been on for line 3 ticks: line 16 is enough for whatever shows
 module _ (t : Lengths) (s : Sheet) (a : accepted s ≡ true) (lasts : 0 < t .l51) where
@@ -280,7 +204,7 @@ module _ (t : Lengths) (s : Sheet) (a : accepted s ≡ true) (lasts : 0 < t .l51
   green-now : (call : Bool) → settle t s call (ClearanceGreen 0) ≡ ClearanceGreen 0
   green-now call = kept t s call (ClearanceGreen 0) lasts
 
-  phase-left : (n : ℕ) (l : Light) (w : Walker) → phaseFits s n l w ≡ true → Left (phaseOf s n) l16 (settlePhase (phaseOf s n) l w)
+  pub phase-left : (n : ℕ) (l : Light) (w : Walker) → phaseFits s n l w ≡ true → Left (phaseOf s n) l16 (settlePhase (phaseOf s n) l w)
   phase-left n l w e =
       let f = phase-told s n l w e in
       let of = listed-time s a in
@@ -292,7 +216,7 @@ module _ (t : Lengths) (s : Sheet) (a : accepted s ≡ true) (lasts : 0 < t .l51
   due track call TrackGreen r f = subst (Next t s l16) (sym (green-now call)) shown
   due track call (TrackYellow p z k) r f = yellow-next t s call l16 p ToClearance k refl (omega arith) (omega arith)
   due track call (TrackRed p z k) r f = red-next t s call l16 p ToClearance k refl (omega arith)
-  due track call (Open n g w) r f = ending-next t s call l16 n ToClearance _ refl (phase-left n (Green g) (Walk w) f)
-  due track call (Ending n z l w) r f = ending-next t s call l16 n ToClearance _ refl (phase-left n l w (both-right (thenFits s z) _ f))
+  due track call (Open p n g w) r f = ending-next t s call l16 p n ToClearance _ refl (phase-left n (Green g) (Walk w) f)
+  due track call (Ending p n z l w) r f = ending-next t s call l16 p n ToClearance _ refl (phase-left n l w (both-right (thenFits s z) _ f))
   due track call (ClearanceGreen k) r f = subst (Next t s l16) (sym (green-now call)) shown
-  due track call Dwell r f = subst (Next t s l16) (sym (green-now call)) shown
+  due track call AllRed r f = subst (Next t s l16) (sym (green-now call)) shown

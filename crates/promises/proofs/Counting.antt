@@ -6,7 +6,7 @@ use native.Mathlib.Omega.{arith}
 use lib.Dec.{leb, eqb}
 use borrow.Author.Tests.{ne-eqb}
 use Rattle.units.specs.Numbers.{pick}
-use Rattle.units.proofs.Steps.{cases, never}
+use Rattle.units.proofs.Steps.{cases, never, both-left, both-right}
 use Rattle.sheet.specs.declared.Sheet.{Sheet}
 use Rattle.phase.specs.declared.Settled.{Settled}
 use Rattle.phase.specs.declared.Settled.the-variants.{Stays, Over}
@@ -17,12 +17,12 @@ use Rattle.stage.specs.declared.Lengths.{Lengths}
 use Rattle.stage.specs.declared.Place.{Place}
 use Rattle.stage.specs.declared.Place.the-variants.{Normal, Train}
 use Rattle.stage.specs.declared.Stage.{Stage}
-use Rattle.stage.specs.declared.Stage.the-variants.{TrackGreen, TrackYellow, TrackRed, Open, Ending, ClearanceGreen, Dwell}
+use Rattle.stage.specs.declared.Stage.the-variants.{TrackGreen, TrackYellow, TrackRed, Open, Ending, ClearanceGreen, AllRed}
 use Rattle.stage.specs.declared.Then.{Then}
-use Rattle.stage.specs.declared.Then.the-variants.{ToTrack, ToPhase, ToClearance, ToDwell}
-use Rattle.stage.specs.Commands.{next, ended, obeyed}
+use Rattle.stage.specs.declared.Then.the-variants.{ToTrack, ToPhase, ToClearance, ToAllRed, ToDwell}
+use Rattle.stage.specs.Commands.{home, next, ended, obeyed}
 use Rattle.stage.specs.Listed.{phaseOf}
-use Rattle.stage.specs.Shown.{inNormal, normalBefore, staysNormal}
+use Rattle.stage.specs.Shown.{inNormal, isNormal, normalBefore, staysNormal}
 use Rattle.stage.specs.Times.{addOne}
 use Rattle.flow.specs.declared.Now.{Now}
 use Rattle.flow.specs.Calls.{counting, answered, becomes, begins, called, overdue}
@@ -33,59 +33,56 @@ use Rattle.flow.proofs.Transfer.{normal-added}
 abbrev Normally : Stage → Type 0
 Normally st = inNormal st ≡ true
 
-before-stays : (p : Place) (z : Then) → normalBefore p z ≡ true → staysNormal z ≡ true
-unfolding normalBefore
-before-stays Normal z e = e
-before-stays Train z e = never e
-
 -- ---- settling
 module _ (t : Lengths) (s : Sheet) (call : Bool) where
-  enter-normal : (z : Then) → staysNormal z ≡ true → Normally (enter call z)
-  unfolding enter staysNormal inNormal
-  enter-normal ToTrack e = refl
-  enter-normal (ToPhase n) e = refl
-  enter-normal ToClearance e = never e
-  enter-normal ToDwell e = never e
+  enter-normal : (p : Place) (z : Then) → normalBefore p z ≡ true → Normally (enter call p z)
+  unfolding enter inNormal normalBefore staysNormal
+  enter-normal p ToTrack e = refl
+  enter-normal p (ToPhase n) e = both-left (isNormal p) _ e
+  enter-normal p ToClearance e = never (both-right (isNormal p) _ e)
+  enter-normal p ToAllRed e = never (both-right (isNormal p) _ e)
+  enter-normal p ToDwell e = never (both-right (isNormal p) _ e)
 
   red-normal : (p : Place) (z : Then) (k : ℕ) → normalBefore p z ≡ true → Normally (settleRed t call p z k)
   unfolding settleRed inNormal
   red-normal p z k e =
-      cases Normally (leb (t .«track_red») k) (enter call z) (TrackRed p z k) (λ b. enter-normal z (before-stays p z e)) (λ b. e)
+      cases Normally (leb (t .«track_red») k) (enter call p z) (TrackRed p z k) (λ b. enter-normal p z e) (λ b. e)
 
   yellow-normal : (p : Place) (z : Then) (k : ℕ) → normalBefore p z ≡ true → Normally (settleYellow t call p z k)
   unfolding settleYellow inNormal
   yellow-normal p z k e =
       cases Normally (leb (t .«track_yellow») k) (settleRed t call p z 0) (TrackYellow p z k) (λ b. red-normal p z 0 e) (λ b. e)
 
-  settled-normal : (n : ℕ) (z : Then) (x : Settled) → normalBefore Normal z ≡ true → Normally (settledAs call n z x)
+  settled-normal : (p : Place) (n : ℕ) (z : Then) (x : Settled) → normalBefore p z ≡ true → Normally (settledAs call p n z x)
   unfolding settledAs inNormal
-  settled-normal n z (Stays l w) e = e
-  settled-normal n z Over e = enter-normal z (before-stays Normal z e)
+  settled-normal p n z (Stays l w) e = e
+  settled-normal p n z Over e = enter-normal p z e
 
   settle-normal : (st : Stage) → Normally st → Normally (settle t s call st)
   unfolding settle inNormal
   settle-normal TrackGreen e = e
   settle-normal (TrackYellow p z k) e = yellow-normal p z k e
   settle-normal (TrackRed p z k) e = red-normal p z k e
-  settle-normal (Open n g w) e = e
-  settle-normal (Ending n z l w) e = settled-normal n z (settlePhase (phaseOf s n) l w) e
+  settle-normal (Open p n g w) e = e
+  settle-normal (Ending p n z l w) e = settled-normal p n z (settlePhase (phaseOf s n) l w) e
   settle-normal (ClearanceGreen k) e = never e
-  settle-normal Dwell e = e
+  settle-normal AllRed e = e
 
 -- ---- the command
-next-normal : (n : ℕ) → normalBefore Normal (next n) ≡ true
-unfolding normalBefore next staysNormal
-next-normal n = cases (λ (z : Then). staysNormal z ≡ true) (eqb n 0) ToTrack (ToPhase n) (λ e. refl) (λ e. refl)
+next-normal : (p : Place) (n : ℕ) → isNormal p ≡ true → normalBefore p (next p n) ≡ true
+unfolding normalBefore isNormal next home staysNormal pick
+next-normal Normal n e = cases (λ (z : Then). staysNormal z ≡ true) (eqb n 0) ToTrack (ToPhase n) (λ e. refl) (λ e. refl)
+next-normal Train n e = never e
 
 ended-normal : (n : ℕ) (st : Stage) → Normally st → Normally (ended n st)
-unfolding ended inNormal normalBefore staysNormal
+unfolding ended inNormal normalBefore isNormal staysNormal pick
 ended-normal n TrackGreen e = refl
 ended-normal n (TrackYellow p z k) e = e
 ended-normal n (TrackRed p z k) e = e
-ended-normal n (Open m g w) e = next-normal n
-ended-normal n (Ending m z l w) e = e
+ended-normal n (Open p m g w) e = next-normal p n e
+ended-normal n (Ending p m z l w) e = e
 ended-normal n (ClearanceGreen k) e = e
-ended-normal n Dwell e = e
+ended-normal n AllRed e = never e
 
 obeyed-normal : (st : Stage) (c : Command) → Normally st → Normally (obeyed st c)
 unfolding obeyed

@@ -10,7 +10,7 @@ use Rattle.sheet.specs.Refusals.{isFine}
 use Rattle.lines.specs.Worksheet.{worksheetOf}
 use Rattle.stage.specs.declared.Command.{Command}
 use Rattle.stage.specs.declared.Stage.{Stage}
-use Rattle.stage.specs.declared.Stage.the-variants.{TrackGreen, TrackYellow, TrackRed, Open, Ending, ClearanceGreen, Dwell}
+use Rattle.stage.specs.declared.Stage.the-variants.{TrackGreen, TrackYellow, TrackRed, Open, Ending, ClearanceGreen, AllRed}
 use Rattle.stage.specs.Shown.{inNormal}
 use Rattle.flow.specs.declared.Now.{Now}
 use Rattle.flow.specs.Calls.{counting, answered, called}
@@ -19,16 +19,18 @@ use Rattle.flow.specs.Tick.{afterTimes, afterCommand, endOf}
 use Rattle.flow.specs.Promises.{now}
 use Rattle.flow.proofs.Counts.{on-counts}
 use Rattle.flow.proofs.Fit.{after-times-fits, after-command-fits}
+use Rattle.flow.proofs.Past.{Past, past-tick}
 use Rattle.flow.proofs.Rest.{nothing-due}
 use Rattle.flow.proofs.Transfer.{begins-now}
 use Rattle.unit.specs.declared.Unit.{Unit}
 use Rattle.measured.specs.Measured.{lengthsOf}
+use Rattle.measured.proofs.Named.{named-listed}
 use Rattle.unit.specs.Unit.{nowOf, holding, fits, tickOf, loadOf}
 use Rattle.unit.specs.Runs.{Event, tick, load}
 use Rattle.unit.proofs.Fit.{fits-sheet, fits-told, onward, tick-is, onward-fits}
 use Rattle.promises.specs.Demand.{CallOn}
 use Rattle.promises.proofs.Between.{GreenBetween, Dark, shown-yet, not-yet, over-yet, later, now as shows-now, over, counted-refuses, elsewhere-refuses, unloaded}
-use Rattle.promises.proofs.Coming.{Within, Next, none-left, next-tick, green-tick, Shown, shown-tick, last-tick, due}
+use Rattle.promises.proofs.Coming.{Within, Next, none-left, next-tick, green-tick, last-tick, due}
 use Rattle.promises.proofs.Coming.Next.{shown, within}
 use Rattle.promises.proofs.Counting.{counts, normal-tick}
 use Rattle.promises.proofs.Sheets as sheets
@@ -54,24 +56,23 @@ as-onward : (u : Unit) (c : Command) (es : List Event) (first last : ℕ) → fi
 as-onward u c es first last f h = subst (λ (v : Unit). GreenBetween v es first last) (sym (tick-is u c true f)) h
 
 -- ---- it has shown: none shows again
-shown-dark : (st : Stage) → Shown st → Dark st
+shown-dark : (st : Stage) → Past ⊥ st → Dark st
 shown-dark TrackGreen d = tt
 shown-dark (TrackYellow p z i) d = tt
 shown-dark (TrackRed p z i) d = tt
-shown-dark (Open n g w) d = tt
-shown-dark (Ending n z l w) d = tt
+shown-dark (Open p n g w) d = tt
+shown-dark (Ending p n z l w) d = tt
 shown-dark (ClearanceGreen j) d = d
-shown-dark Dwell d = tt
+shown-dark AllRed d = tt
 
-shown-over : (es : List Event) → CallOn es → (u : Unit) → fits u ≡ true → Shown (u .stage) → GreenBetween u es 0 0
+shown-over : (es : List Event) → CallOn es → (u : Unit) → fits u ≡ true → Past ⊥ (u .stage) → GreenBetween u es 0 0
 shown-over [] o u f d = over-yet u (shown-dark (u .stage) d)
 shown-over (tick c false ∷ es) o u f d = never (search (o .0))
 shown-over (tick c true ∷ es) o u f d =
     let h =
-    shown-over es (o .1) (onward u c true) (onward-fits u c true f)
-    (shown-tick (lengthsOf (u .sheet)) (u .sheet) (unit-lasts u f) c (nowOf u) d) in
+    shown-over es (o .1) (onward u c true) (onward-fits u c true f) (past-tick ⊥ (lengthsOf (u .sheet)) (u .sheet) c (nowOf u) d) in
     over u c es (as-onward u c es 0 0 f h) (shown-dark (u .stage) d)
-shown-over (load s ∷ es) o u f d = unloaded u s (elsewhere-refuses u s (λ e. subst Shown e d)) es 0 0 (shown-over es o u f d)
+shown-over (load s ∷ es) o u f d = unloaded u s (elsewhere-refuses u s (λ e. subst (Past ⊥) e d)) es 0 0 (shown-over es o u f d)
 
 -- ---- in the green: suc r ticks of line 51 are left
 abbrev greenAt : Sheet → ℕ → ℕ → Unit
@@ -82,17 +83,17 @@ abbrev Elsewhere : Stage → Type 0
 Elsewhere TrackGreen = ⊥
 Elsewhere (TrackYellow p z i) = Prim.Unit {0}
 Elsewhere (TrackRed p z i) = Prim.Unit {0}
-Elsewhere (Open n g w) = Prim.Unit {0}
-Elsewhere (Ending n z l w) = Prim.Unit {0}
+Elsewhere (Open p n g w) = Prim.Unit {0}
+Elsewhere (Ending p n z l w) = Prim.Unit {0}
 Elsewhere (ClearanceGreen j) = Prim.Unit {0}
-Elsewhere Dwell = Prim.Unit {0}
+Elsewhere AllRed = Prim.Unit {0}
 
 green-lasts : (es : List Event) → CallOn es → (s : Sheet) (i j r : ℕ) → fits (greenAt s i j) ≡ true → j + suc r ≡ fiftyOne s → GreenBetween (greenAt s i j) es 0 (suc r)
 green-lasts [] o s i j r f e = shown-yet (greenAt s i j) r (j, refl)
 green-lasts (tick c false ∷ es) o s i j r f e = never (search (o .0))
 green-lasts (tick c true ∷ es) o s i j zero f e =
     let u = greenAt s i j in
-    let h = shown-over es (o .1) (onward u c true) (onward-fits u c true f) (last-tick (lengthsOf s) s (unit-lasts u f) c i j (omega arith)) in
+    let h = shown-over es (o .1) (onward u c true) (onward-fits u c true f) (last-tick (lengthsOf s) s c i j (omega arith)) in
     shows-now u c es 0 (as-onward u c es 0 0 f h) (j, refl)
 green-lasts (tick c true ∷ es) o s i j (suc r) f e =
     let u = greenAt s i j in
@@ -153,10 +154,10 @@ module _ (s : Sheet) (k : ℕ) where
   within-dark TrackGreen h = tt
   within-dark (TrackYellow p z i) h = tt
   within-dark (TrackRed p z i) h = tt
-  within-dark (Open n g w) h = tt
-  within-dark (Ending n z l w) h = tt
+  within-dark (Open p n g w) h = tt
+  within-dark (Ending p n z l w) h = tt
   within-dark (ClearanceGreen j) h = h
-  within-dark Dwell h = tt
+  within-dark AllRed h = tt
 
   within-elsewhere : (st : Stage) → Within (lengthsOf s) s k st → st ≡ TrackGreen → ⊥
   within-elsewhere st h e = subst (Within (lengthsOf s) s k) e h
@@ -195,10 +196,10 @@ unfolding inNormal
 normal-dark TrackGreen e = tt
 normal-dark (TrackYellow p z i) e = tt
 normal-dark (TrackRed p z i) e = tt
-normal-dark (Open n g w) e = tt
-normal-dark (Ending n z l w) e = tt
+normal-dark (Open p n g w) e = tt
+normal-dark (Ending p n z l w) e = tt
 normal-dark (ClearanceGreen j) e = never e
-normal-dark Dwell e = tt
+normal-dark AllRed e = tt
 
 module _ (u : Unit) (c : Command) (f : fits u ≡ true) (n : inNormal (u .stage) ≡ true) (e : u .count + 1 ≡ three (u .sheet)) where
   pub event-next : Next (lengthsOf (u .sheet)) (u .sheet) (sixteen (u .sheet)) (endOf (lengthsOf (u .sheet)) (u .sheet) c true (nowOf u))
@@ -207,7 +208,7 @@ module _ (u : Unit) (c : Command) (f : fits u ≡ true) (n : inNormal (u .stage)
       let s = u .sheet in
       let a = fits-sheet u f in
       let st = afterCommand t s c true (afterTimes t s true (nowOf u)) in
-      let g = after-command-fits t s c true _ (after-times-fits t s true (nowOf u) (fits-told u f .stage)) in
+      let g = after-command-fits t s (named-listed s a) c true _ (after-times-fits t s true (nowOf u) (fits-told u f .stage)) in
       let d = due t s a (unit-lasts u f) (sheets.track-time s a) true st (nothing-due t s true _ (unit-lasts u f)) g in
       let q : called t true (counting t (nowOf u)) (u .count) st ≡ answered st =
       ap (λ (b : Bool). called t true b (u .count) st) (counts t s (nowOf u) c n (omega arith)) ∙ begins-now t (u .count) st e in

@@ -2,6 +2,7 @@ pub mod Between
 pub mod Coming
 pub mod Counting
 pub mod Demand
+pub mod Dwell
 pub mod Greens
 pub mod Loads
 pub mod Own

@@ -1,4 +1,4 @@
--- No sheet is refused 20: each refusal of the acceptance is one of 2 to 10, row by row; so no event after a fresh start is answered 20.
+-- No sheet is refused 20: each refusal of the acceptance is one of 2 to 10 and 12, row by row; so no event after a fresh start is answered 20.
 -- Assumes nothing.
 use Prim.Native.Nat.{ℕ, zero, suc, _+_, _-_}
 use mathlib.Core.Bool.{Bool, true, false}
@@ -14,7 +14,7 @@ use Rattle.sheet.specs.declared.Refusal.{Refusal}
 use Rattle.sheet.specs.declared.Sheet.{Sheet}
 use Rattle.sheet.specs.Refusals.{numberOf, answerNumber, orElse, unless}
 use Rattle.numbers.specs.Flat.{flatOf, phaseAt}
-use Rattle.rows.specs.Table.{kindOf, present, phaseKind, pointKind, firstPhase, rowCount}
+use Rattle.rows.specs.Table.{list, kindOf, formOf, present, phaseKind, pointKind, firstPhase, rowCount}
 use Rattle.faults.specs.Lines.{phaseFault, beforePhase, ruleFault, rowFault, hereFault, lineAfter, faultFrom}
 use Rattle.faults.specs.Whole.{wholeFault, acceptOf}
 use Rattle.lines.specs.Worksheet.{worksheetOf}
@@ -51,7 +51,8 @@ module _ (v : List ℕ) where
   own-rule row line =
       cases Own (eqb (kindOf row) phaseKind) _ _
       (λ e. own-phase (beforePhase v (row - firstPhase)) (phaseAt v (row - firstPhase)) line)
-      (λ e. cases Own (eqb (kindOf row) pointKind) _ Fine (λ d. own-unless _ _ _ (λ z. omega arith)) (λ d. own-fine))
+      (λ e. cases Own (eqb (kindOf row) pointKind) _ _ (λ d. own-unless _ _ _ (λ z. omega arith))
+      (λ d. cases Own (eqb (formOf row) list) _ Fine (λ b. own-unless _ _ _ (λ z. omega arith)) (λ b. own-fine)))
 
   own-row : (row line : ℕ) → Own (rowFault v row line)
   unfolding rowFault
@@ -70,7 +71,8 @@ own-whole : (s : Sheet) → Own (wholeFault s)
 unfolding wholeFault
 own-whole s =
     own-or _ _ (own-unless _ _ _ (λ e. omega arith))
-    (own-or _ _ (own-unless _ _ _ (λ e. omega arith)) (own-or _ _ (own-unless _ _ _ (λ e. omega arith)) (own-unless _ _ _ (λ e. omega arith))))
+    (own-or _ _ (own-unless _ _ _ (λ e. omega arith))
+    (own-or _ _ (own-unless _ _ _ (λ e. omega arith)) (own-or _ _ (own-unless _ _ _ (λ e. omega arith)) (own-unless _ _ _ (λ e. omega arith)))))
 
 own-refusals : (s : Sheet) → Own (worksheetOf s .answer)
 unfolding worksheetOf acceptOf
