@@ -21,10 +21,13 @@ def load(text):
 # one phase of mode 2 whose walk is longer than its green, and no red anywhere; line 16 is 60 + 35
 short = sheet(300).replace('phases=2\n', 'phases=2\nphase=1,20,0,30,0,60,35,2\n').replace('phase=4,40,0,35,20,70,100,1\n', '').replace('track=40,20', 'track=30,0')
 
+# phase 2 has no pedestrians, phase 4 has: both are named
+named = sheet(301).replace('dwell=0', 'dwell=2,4')
+
 RUN = [
     # the call met in track green: green at tick 2, over at tick 492
     'ticks=1,600',
-    'tick=1,4',       # an end in dwell: 23
+    'tick=1,4',       # an end in dwell, where the sheet names no phase: 23
     'tick=0,4',       # and on its last tick
     # a call that drops one tick short of line 3
     'tick=1', 'tick=0', 'tick=1', 'ticks=0,5',
@@ -56,6 +59,15 @@ RUN = [
     # mode 2: yellow waits for the walk, and red, of no length, for the clearance
     'tick=0,1', 'ticks=0,40', 'tick=0,2', 'ticks=0,200', 'tick=0,0', 'ticks=0,100',
     'tick=0,1', 'ticks=0,29', 'ticks=1,700', 'ticks=0,2',
+    # side streets: dwell in all red, a phase on its first tick; the phase after itself, one not named, and the end asked twice
+    load(named.replace('dwell=2,4', 'dwell=2,5')).rstrip('\n'), load(named.replace('dwell=2,4', 'dwell=4,2')).rstrip('\n'), load(named).rstrip('\n'),
+    'ticks=1,551', 'tick=1,4', 'tick=1,4', 'tick=1,3', 'ticks=1,100', 'tick=1,2', 'tick=1,0', 'ticks=1,300',
+    # back to all red, where 0 is refused, and again a phase; in it the call goes off: what was next does not start, and a command is refused
+    'tick=1,0', 'ticks=1,60', 'tick=1,0', 'tick=1,4', 'ticks=1,10', 'tick=1,2', 'tick=0', 'tick=0,2',
+    # the call back on meanwhile counts from the tick after normal track green has returned: line 3 is 2, so green two ticks later
+    'ticks=1,300', 'ticks=1,700',
+    # the call off in all red, on the tick on which a phase is started there
+    'tick=0,2', 'ticks=0,200',
     load(sheet(65535)).rstrip('\n'), load(sheet(65535)).rstrip('\n'), load(sheet(1)).rstrip('\n'),
     'tick=2',
 ]
@@ -79,10 +91,23 @@ def main():
     assert ('22', '0') in [l[4:] for l in at] and ('21', '0') in [l[4:] for l in at] and ('2', '3') in [l[4:] for l in at] and ('8', '0') in [l[4:] for l in at]
     # no phase 4 starts after the transfer in which it was asked
     asked = next(i for i, l in enumerate(at) if i > starts[1] and l[1] == 'phase-green' and l[2] == '2')
-    assert all(l[2] != '4' for l in at[asked:-1]), at[asked:]
+    assert all(l[1:3] != ('phase-green', '4') for l in at[asked:-1]), at[asked:]
     # mode 2: green until the walk is over, though 20 ticks were served long before
     one = [l for l in at[:-1] if l[2] == '1']
     assert [l[1:4:2] for l in one[:5]] == [('phase-green', 'walk'), ('phase-yellow', 'clearance'), ('phase-red', 'clearance'), ('phase-green', 'walk'), ('phase-yellow', 'clearance')], one
+    # side streets: the phase is started on the tick on which clearance red ends, with no all red shown before it
+    side = next(i for i, l in enumerate(at) if l[1] == 'dwell-green')
+    assert at[side - 1][1] == 'clearance-red' and [l[2:5:2] for l in at[side:side + 3]] == [('4', '0'), ('4', '23'), ('4', '23')], at[side:side + 3]
+    # "in a phase n is another named phase, or 0 for all red"
+    assert [l[1:3] for l in at[side + 4:side + 12] if l[4] == '0'] == [
+        ('dwell-yellow', '4'), ('dwell-red', '4'), ('dwell-green', '2'), ('dwell-yellow', '2'), ('dwell-red', '2'), ('dwell', '0')], at[side:side + 12]
+    # the call off: phase 2, which was next, does not start; 70 + 100 + 35 + 20 ticks from the asking normal track green returns, and the call
+    # that is back on is counted from the tick after that
+    off = next(i for i, l in enumerate(at) if i > side and l[1] == 'track-green')
+    assert at[off - 1][1:3] == ('dwell-red', '4') and at[off + 1][1] == 'clearance-green' and int(at[off + 1][0]) - int(at[off][0]) == 2, at[off - 1:off + 2]
+    # a phase started on the tick on which the call is off is ended by the ordinary rules: 50 + 40 + 15 ticks
+    last = next(i for i, l in enumerate(at) if i > off and l[1] == 'dwell-green')
+    assert at[last - 1][1] == 'dwell' and at[last + 3][1] == 'track-green' and int(at[last + 3][0]) - int(at[last][0]) == 105, at[last:last + 4]
     assert lines[-2] == 'refused=1,%d' % text.count(b'\n'), lines[-2]
     folder = os.path.join(here, '..', 'crates', 'sequence')
     with open(os.path.join(folder, 'stdin'), 'wb') as f:

@@ -10,17 +10,19 @@ import sequence_reference
 
 here = os.path.dirname(os.path.abspath(__file__))
 paper = open(os.path.join(here, '..', 'sheets', 'paper.sheet'), 'rb').read()
-# a longer track interval, a grade below 1 percent, and a third phase, which has other green and mode 2
-SITE = paper.replace(b'grade=0', b'grade=5').replace(b'phases=2', b'phases=3').replace(b'track=40,20', b'phase=6,30,12,30,10,20,60,2\ntrack=60,55')
+# a longer track interval, a grade below 1 percent, a third phase, which has other green and mode 2, and two phases named for dwell
+SITE = paper.replace(b'grade=0', b'grade=5').replace(b'phases=2', b'phases=3').replace(b'track=40,20', b'phase=6,30,12,30,10,20,60,2\ntrack=60,55').replace(b'dwell=0', b'dwell=2,6')
 VEHICLES = ['car', 'su', 'bus', 'wb50']
 KEYS = ['l18', 'l19', 'l20', 'l28', 'l30', 'l31', 'l33', 'l37', 'l39', 'l47', 'l56', 'l57', 'l58']
-PLACE = dict([('issue', 0), ('vehicle', 1), ('grade', 2), ('l01', 3), ('l02', 4), ('phases', 5), ('yellow', 70), ('red', 71), ('points', 85)]
-             + [(k, 72 + i) for i, k in enumerate(KEYS)])
+PLACE = dict([('issue', 0), ('vehicle', 1), ('grade', 2), ('l01', 3), ('l02', 4), ('phases', 5), ('yellow', 70), ('red', 71), ('named', 72), ('points', 94)]
+             + [(k, 81 + i) for i, k in enumerate(KEYS)])
 OF_PHASE = ['number', 'green', 'other', 'yellow', 'red', 'walk', 'clearance', 'mode']
-STAGES = ['track-green', 'track-yellow', 'track-red', 'open', 'ending', 'clearance-green', 'clearance-yellow', 'clearance-red', 'dwell']
+STAGES = ['track-green', 'track-yellow', 'track-red', 'open', 'ending', 'clearance-green', 'clearance-yellow', 'clearance-red', 'dwell', 'dwell-open', 'dwell-ending']
 # a stage's kind and place as numbers; 9 is no stage: a start
 KINDS = {'track-green': (0, 0), 'track-yellow': (1, 0), 'track-red': (2, 0), 'open': (3, 0), 'ending': (4, 0), 'clearance-green': (5, 0),
-         'clearance-yellow': (1, 1), 'clearance-red': (2, 1), 'dwell': (6, 0), 'start': (9, 0)}
+         'clearance-yellow': (1, 1), 'clearance-red': (2, 1), 'dwell': (6, 0), 'dwell-open': (3, 1), 'dwell-ending': (4, 1), 'start': (9, 0)}
+IN_PHASE = ('open', 'ending', 'dwell-open', 'dwell-ending')
+ASKED = ('ending', 'dwell-ending')
 LIGHTS = ['green', 'yellow', 'red']
 WALKERS = ['walk', 'clearance']
 
@@ -29,28 +31,40 @@ def of_phase(i, name):
     return 6 + 8 * i + OF_PHASE.index(name)
 
 
+def of_dwell(i):
+    return PLACE['named'] + 1 + i
+
+
 def of_point(i, name):
-    return 86 + 2 * i + ['feet', 'tenths'].index(name)
+    return PLACE['points'] + 1 + 2 * i + ['feet', 'tenths'].index(name)
 
 
-# ---- a sheet as its numbers: in the order of its text, 8 phases and 16 points, the grade 1,000,000 more, the vehicle as its place
+# ---- a sheet as its numbers: in the order of its text, 8 phases, 8 phases named for dwell and 16 points, the grade 1,000,000 more, the vehicle as its place
 def numbers_of(s):
     flat = [s['issue'], VEHICLES.index(s['vehicle']), s['grade'] + 1000000, s['l01'], s['l02'], s['phases']]
-    flat += sum(s['phase'], []) + [0] * (8 * (8 - len(s['phase']))) + s['track'] + [s[k] for k in KEYS] + [s['points']]
+    flat += sum(s['phase'], []) + [0] * (8 * (8 - len(s['phase']))) + s['track']
+    flat += [len(s['dwell'])] + s['dwell'] + [0] * (8 - len(s['dwell'])) + [s[k] for k in KEYS] + [s['points']]
     return flat + sum(s['point'], []) + [0] * (2 * (16 - len(s['point'])))
+
+
+def dwell_of(n):
+    """the dwell line of the values. Two of them have no text, more than eight numbers and one that is 0: out of range all the same, as a 9 is"""
+    count = n[PLACE['named']]
+    named = n[of_dwell(0):of_dwell(min(count, 8))]
+    return '9' if count > 8 or named == [0] else ','.join(map(str, named)) or '0'
 
 
 def text_of(n):
     """the text that the values would make; a count out of range ends it"""
     lines = ['issue=%d' % n[0], 'vehicle=' + VEHICLES[n[1]], 'grade=%d' % (n[2] - 1000000), 'l01=%d' % n[3], 'l02=%d' % n[4], 'phases=%d' % n[5]]
-    lines += ['phase=' + ','.join(map(str, n[6 + 8 * i:14 + 8 * i])) for i in range(min(n[5], 8))] + ['track=%d,%d' % (n[70], n[71])]
-    lines += ['%s=%d' % (k, v) for k, v in zip(KEYS, n[72:85])] + ['points=%d' % n[85]]
-    lines += ['point=%d,%d' % tuple(n[86 + 2 * i:88 + 2 * i]) for i in range(min(n[85], 16))]
+    lines += ['phase=' + ','.join(map(str, n[6 + 8 * i:14 + 8 * i])) for i in range(min(n[5], 8))]
+    lines += ['track=%d,%d' % (n[70], n[71]), 'dwell=' + dwell_of(n)] + ['%s=%d' % (k, n[PLACE[k]]) for k in KEYS] + ['points=%d' % n[94]]
+    lines += ['point=%d,%d' % tuple(n[95 + 2 * i:97 + 2 * i]) for i in range(min(n[94], 16))]
     return ('\n'.join(lines) + '\n').encode()
 
 
 SITE_NUMBERS = numbers_of(reference.read(SITE))
-ZERO_NUMBERS = [0, 0, 1000000] + [0] * 115
+ZERO_NUMBERS = [0, 0, 1000000] + [0] * 124
 
 
 def changed(place, value):
@@ -67,10 +81,10 @@ def fault(numbers):
 
 # ---- a unit: its sheet's numbers, the stage, the phase and the phase next, the light and the walker with their times, the count
 class Unit:
-    def __init__(self, numbers, stage, phase=0, next=0, light='green', spent=0, walker='walk', steps=0, count=0):
+    def __init__(self, numbers, stage, phase=0, next=0, light='green', spent=0, walker='walk', steps=0, count=0, leaving=False):
         self.numbers, self.stage, self.phase, self.next, self.light, self.spent = numbers, stage, phase, next, light, spent
-        self.walker, self.steps, self.count = walker, steps, count
-        self.follows = (1, next) if next != 0 else (0, 0)
+        self.walker, self.steps, self.count, self.leaving = walker, steps, count, leaving
+        self.follows = (1, next) if next != 0 else (4, 0) if stage == 'dwell-ending' and not leaving else (0, 0)
 
     def fits(self):
         """20: 'a tick or load whose unit has a refused sheet, a phase not listed, a next phase neither listed nor 0, a time above its length
@@ -80,15 +94,15 @@ class Unit:
         s = reference.read(text_of(self.numbers))
         lines = reference.worksheet(s)
         phases = {p[0]: dict(zip(OF_PHASE, p)) for p in s['phase']}
-        if self.stage in ('open', 'ending') and self.phase not in phases:
+        if self.stage in IN_PHASE and self.phase not in phases:
             return False
-        if self.stage in ('track-yellow', 'track-red', 'ending') and self.next not in phases and self.next != 0:
+        if self.stage in ('track-yellow', 'track-red') + ASKED and self.next not in phases and self.next != 0:
             return False
         yellow, red = s['track']
         length = {'track-yellow': yellow, 'track-red': red, 'clearance-green': lines[50], 'clearance-yellow': yellow, 'clearance-red': red}
         if self.stage in length and self.spent > length[self.stage]:
             return False
-        if self.stage in ('open', 'ending'):
+        if self.stage in IN_PHASE:
             p = phases[self.phase]
             if self.spent > (p['green'] + p['other'] if self.light == 'green' else p[self.light]) or self.steps > p[self.walker]:
                 return False
@@ -97,13 +111,14 @@ class Unit:
     def running(self):
         u = sequence_reference.Unit(reference.read(text_of(self.numbers)))
         u.stage, u.count, u.spent, u.next = self.stage, self.count, self.spent, self.next
-        if self.stage in ('open', 'ending'):
-            u.stage, u.p, u.asked = 'phase', u.phases[self.phase], self.stage == 'ending'
+        if self.stage in IN_PHASE:
+            u.stage = 'dwell-phase' if self.stage.startswith('dwell') else 'phase'
+            u.p, u.asked, u.leaving = u.phases[self.phase], self.stage in ASKED, self.leaving
             u.light, u.walker, u.steps = self.light, self.walker, self.steps
         return u
 
     def state(self):
-        """the numbers of the stage: its kind and place, what follows (0 the track, 1 a phase, 2 clearance green, 3 dwell) and the phase next, the
+        """the numbers of the stage: its kind and place, what follows (0 the track, 1 a phase, 2 clearance green, 3 dwell as the call is, 4 all red) and the phase next, the
         phase shown, its light, the ticks of that or of the track's interval, its walker, the ticks of that; 0 for what the stage does not have"""
         follows = (3, 0) if self.stage in ('clearance-yellow', 'clearance-red') else self.follows
         return KINDS[self.stage] + follows + (self.phase, LIGHTS.index(self.light), self.spent, WALKERS.index(self.walker), self.steps)
@@ -114,9 +129,10 @@ class Unit:
     def words(self):
         named = {'track-yellow': '%d next %d' % (self.spent, self.next), 'track-red': '%d next %d' % (self.spent, self.next),
                  'clearance-green': '%d' % self.spent, 'clearance-yellow': '%d' % self.spent, 'clearance-red': '%d' % self.spent}
-        if self.stage in ('open', 'ending'):
+        if self.stage in IN_PHASE:
             text = 'phase %d %s %d %s %d' % (self.phase, self.light, self.spent, self.walker, self.steps)
-            text += ' ending next %d' % self.next if self.stage == 'ending' else ''
+            text = 'dwell ' + text if self.stage.startswith('dwell') else text
+            text += ' ending next %s' % ('track' if self.leaving else self.next) if self.stage in ASKED else ''
         else:
             text = ' '.join([self.stage] + ([named[self.stage]] if self.stage in named else []))
         return '%s count %d' % (text, self.count)
@@ -124,12 +140,12 @@ class Unit:
 
 def after_tick(u):
     """a unit after a tick, in words and as numbers; in the transfer what was next is not looked at any more: clearance green follows"""
-    stage = u.stage if u.stage != 'phase' else 'ending' if u.asked else 'open'
-    next = u.next if stage in ('track-yellow', 'track-red', 'ending') else 0
+    stage = u.stage if u.stage not in sequence_reference.PHASES else u.stage[:-5] + ('ending' if u.asked else 'open')
+    next = u.next if stage in ('track-yellow', 'track-red') + ASKED else 0
     spent = u.spent if stage not in ('track-green', 'dwell') else 0
     shown = Unit(None, stage, 0, next, 'green', spent, 'walk', 0, u.count)
-    if u.stage == 'phase':
-        shown = Unit(None, stage, u.p['number'], next, u.light, spent, u.walker, u.steps, u.count)
+    if u.stage in sequence_reference.PHASES:
+        shown = Unit(None, stage, u.p['number'], next, u.light, spent, u.walker, u.steps, u.count, u.leaving)
     if not u.begun() or stage not in ('track-yellow', 'track-red', 'ending'):
         return shown.words(), shown.numbers_shown()
     shown.follows = (2, 0)
@@ -289,22 +305,61 @@ CASES = [
     unfit('clearance red above its length', 'clearance-red', spent=56, count=2),
     fit('dwell, call off', 'dwell', 'track-green count 0', count=2),
     fit('dwell, call on', 'dwell', 'dwell count 2', count=2, call=1),
-    fit('end in dwell', 'dwell', '23,0 track-green count 0', count=2, command=2),
+    # in the all red of dwell a named phase, 2 or 6, is started; no other, and not 0
+    fit('all red, a named phase', 'dwell', 'dwell phase 2 green 0 walk 0 count 2', count=2, call=1, command=2),
+    fit('all red, a phase not named', 'dwell', '23,0 dwell count 2', count=2, call=1, command=4),
+    fit('all red, next 0', 'dwell', '23,0 dwell count 2', count=2, call=1, command=0),
+    fit('all red, a phase not named, call off', 'dwell', '23,0 track-green count 0', count=2, command=4),
+    fit('all red, a named phase, call off', 'dwell', 'dwell phase 6 green 0 walk 0 ending next track count 2', count=2, command=6),
+    fit('clearance red over, a named phase', 'clearance-red', 'dwell phase 6 green 0 walk 0 count 2', spent=54, count=2, call=1, command=6),
+    fit('clearance red not over, a named phase', 'clearance-red', '23,0 clearance-red 54 count 2', spent=53, count=2, call=1, command=6),
+    # a phase run in dwell, call on: n is another named phase, or 0 for all red
+    fit('dwell phase', 'dwell-open', 'dwell phase 6 green 42 walk 20 count 2', phase=6, spent=41, steps=19, count=2, call=1),
+    fit('dwell phase at green + other and walk', 'dwell-open', 'dwell phase 6 green 42 walk 20 count 2', phase=6, spent=42, steps=20, count=2, call=1),
+    unfit('dwell phase above green + other', 'dwell-open', phase=6, spent=43, steps=20, count=2, call=1),
+    unfit('dwell phase above its walk', 'dwell-open', phase=6, spent=42, steps=21, count=2, call=1),
+    unfit('dwell phase not listed', 'dwell-open', phase=3, count=2, call=1),
+    fit('dwell phase listed, not named', 'dwell-open', 'dwell phase 4 green 11 walk 21 count 2', phase=4, spent=10, steps=20, count=2, call=1),
+    fit('dwell phase, end to another', 'dwell-open', 'dwell phase 6 green 11 walk 11 ending next 2 count 2', phase=6, spent=10, steps=10, count=2, call=1, command=2),
+    fit('dwell phase, end to all red', 'dwell-open', 'dwell phase 6 green 11 walk 11 ending next 0 count 2', phase=6, spent=10, steps=10, count=2, call=1, command=0),
+    fit('dwell phase, end to itself', 'dwell-open', '23,0 dwell phase 6 green 11 walk 11 count 2', phase=6, spent=10, steps=10, count=2, call=1, command=6),
+    fit('dwell phase, end to one not named', 'dwell-open', '23,0 dwell phase 6 green 11 walk 11 count 2', phase=6, spent=10, steps=10, count=2, call=1, command=4),
+    fit('dwell phase, asked twice', 'dwell-ending', '23,0 dwell phase 6 green 11 walk 11 ending next 2 count 2', phase=6, next=2, spent=10, steps=10, count=2, call=1, command=0),
+    unfit('dwell phase, next not listed', 'dwell-ending', phase=6, next=3, count=2, call=1),
+    fit('dwell phase over, next a phase', 'dwell-ending', 'dwell phase 2 green 0 walk 0 count 2', phase=6, next=2, light='red', spent=9, walker='clearance', steps=59, count=2, call=1),
+    fit('dwell phase over, next all red', 'dwell-ending', 'dwell count 2', phase=6, light='red', spent=9, walker='clearance', steps=59, count=2, call=1),
+    fit('dwell phase over, next all red, call off', 'dwell-ending', 'track-green count 0', phase=6, light='red', spent=9, walker='clearance', steps=59, count=2),
+    fit('dwell phase over, and another started', 'dwell-ending', 'dwell phase 2 green 0 walk 0 count 2', phase=6, light='red', spent=9, walker='clearance', steps=59, count=2, call=1, command=2),
+    fit('clearance runs on in dwell', 'dwell-ending', 'dwell phase 6 red 10 clearance 59 ending next 0 count 2', phase=6, light='red', spent=10, walker='clearance', steps=58, count=2, call=1),
+    # the call off: asked to end, what was next is dropped, and then normal track green
+    fit('dwell phase, call off', 'dwell-open', 'dwell phase 6 green 11 walk 11 ending next track count 2', phase=6, spent=10, steps=10, count=2),
+    fit('dwell phase served, call off', 'dwell-open', 'dwell phase 6 yellow 0 clearance 0 ending next track count 2', phase=6, spent=42, steps=20, count=2),
+    fit('dwell phase, end and call off', 'dwell-open', 'dwell phase 6 green 11 walk 11 ending next track count 2', phase=6, spent=10, steps=10, count=2, command=2),
+    fit('dwell phase asked, call off', 'dwell-ending', 'dwell phase 6 green 11 walk 11 ending next track count 2', phase=6, next=2, spent=10, steps=10, count=2),
+    fit('dwell phase over, next a phase, call off', 'dwell-ending', 'dwell phase 2 green 0 clearance 0 ending next track count 2', phase=6, next=2, light='red', spent=9, walker='clearance', steps=59, count=2),
+    fit('leaving, call back on', 'dwell-ending', 'dwell phase 6 green 11 walk 11 ending next track count 2', phase=6, leaving=True, spent=10, steps=10, count=2, call=1),
+    fit('leaving, a command', 'dwell-ending', '23,0 dwell phase 6 green 11 walk 11 ending next track count 2', phase=6, leaving=True, spent=10, steps=10, count=2, call=1, command=2),
+    fit('leaving, over, call on', 'dwell-ending', 'track-green count 0', phase=6, leaving=True, light='red', spent=9, walker='clearance', steps=59, count=2, call=1),
+    fit('leaving, over, a phase asked', 'dwell-ending', 'track-yellow 0 next 4 count 0', phase=6, leaving=True, light='red', spent=9, walker='clearance', steps=59, count=2, call=1, command=4),
     # the sheet held
     unfit('held sheet refused 2', 'track-green', held=(PLACE['l02'], 0)),
     unfit('held sheet refused 7', 'dwell', held=(PLACE['l47'], 61), count=2),
     unfit('held sheet refused 10', 'open', held=(PLACE['phases'], 1), phase=2),
+    unfit('held sheet refused 12', 'dwell', held=(of_dwell(1), 7), count=2),
+    fit('held sheet with an entry past the count', 'dwell', '23,0 dwell count 2', held=(of_dwell(2), 4), count=2, call=1, command=4),
 ]
 
-# a sheet with one number changed, and its own refusal: 2 to 6 in the sheet's order, with the line in the text it would make; then 7 to 10
+# a sheet with one number changed, and its own refusal: 2 to 6 in the sheet's order, with the line in the text it would make; then 7 to 10 and 12
 FAULTS = [
     ('grade 81', PLACE['grade'], 1000081, 2, 3), ('l02 of 0', PLACE['l02'], 0, 2, 5), ('no phase', PLACE['phases'], 0, 2, 6), ('nine phases', PLACE['phases'], 9, 2, 6),
     ('phase 9', of_phase(2, 'number'), 9, 2, 9), ('phase 2 twice', of_phase(1, 'number'), 2, 3, 8), ('walk in mode 0', of_phase(0, 'walk'), 1, 5, 7),
-    ('mode 2, clearance 39', of_phase(2, 'clearance'), 39, 6, 9), ('track yellow 29', PLACE['yellow'], 29, 2, 10), ('l30 of 199', PLACE['l30'], 199, 2, 15),
-    ('one point', PLACE['points'], 1, 2, 24), ('seventeen points', PLACE['points'], 17, 2, 24), ('first point 0,1', of_point(0, 'tenths'), 1, 4, 25),
-    ('distances that stay', of_point(2, 'feet'), 100, 4, 27), ('times that fall', of_point(2, 'tenths'), 139, 4, 27),
+    ('mode 2, clearance 39', of_phase(2, 'clearance'), 39, 6, 9), ('track yellow 29', PLACE['yellow'], 29, 2, 10), ('l30 of 199', PLACE['l30'], 199, 2, 16),
+    ('nine dwell phases', PLACE['named'], 9, 2, 11), ('dwell phase 0', of_dwell(0), 0, 2, 11), ('dwell phase 9', of_dwell(1), 9, 2, 11), ('three dwell phases, the last 0', PLACE['named'], 3, 2, 11),
+    ('the same dwell phase twice', of_dwell(1), 2, 3, 11), ('dwell phases that fall', of_dwell(1), 1, 3, 11),
+    ('one point', PLACE['points'], 1, 2, 25), ('seventeen points', PLACE['points'], 17, 2, 25), ('first point 0,1', of_point(0, 'tenths'), 1, 4, 26),
+    ('distances that stay', of_point(2, 'feet'), 100, 4, 28), ('times that fall', of_point(2, 'tenths'), 139, 4, 28),
     ('l47 above l18', PLACE['l47'], 61, 7, 0), ('l31 of 9', PLACE['l31'], 9, 8, 0), ('line 48 beyond the last point', of_point(2, 'feet'), 155, 9, 0),
-    ('track above line 16', PLACE['phases'], 1, 10, 0),
+    ('track above line 16', PLACE['phases'], 1, 10, 0), ('dwell phase not listed', of_dwell(1), 7, 12, 0), ('the first dwell phase not listed', of_dwell(0), 1, 12, 0),
 ]
 SEVEN = (PLACE['l47'], 61)
 LOADS = [
@@ -327,8 +382,14 @@ LOADS = [
     Case('the last issue', 'track-green', '0,0 track-green count 0', (0, 0), issue=65535),
     Case('on the last issue', 'track-green', '0,0 track-green count 0', (22, 0), held=(0, 65535), issue=65535),
     Case('another sheet', 'track-green', '0,0 track-green count 0', (0, 0), offered=(PLACE['l39'], 100)),
+    Case('no dwell phase', 'track-green', '0,0 track-green count 0', (0, 0), offered=(PLACE['named'], 0)),
+    Case('an entry past the count of dwell phases', 'track-green', '0,0 track-green count 0', (0, 0), offered=(of_dwell(7), 99)),
+    Case('21 in a phase run in dwell', 'dwell-open', '0,0 dwell phase 6 green 1 walk 1 count 2', (21, 0), phase=6, count=2, call=1),
+    Case('12 before 21', 'dwell', '0,0 dwell count 2', (12, 0), count=2, call=1, offered=(of_dwell(1), 7)),
+    Case('12 before 22', 'track-green', '0,0 track-green count 0', (12, 0), issue=11, offered=(of_dwell(1), 7)),
+    Case('20 before 12', 'track-green', '20', UNFIT, count=3, offered=(of_dwell(1), 7)),
 ] + [Case('load, ' + name, 'track-green', '0,0 track-green count 0', (number, line), offered=(place, value)) for name, place, value, number, line in FAULTS]
-# each of 2 to 10 where 21 and 22 would apply too
+# each of 2 to 10, and 12, where 21 and 22 would apply too
 LOADS += [Case('load in dwell, ' + name, 'dwell', '0,0 track-green count 0', (number, line), offered=(place, value), issue=12, count=2)
           for name, place, value, number, line in FAULTS]
 STARTS = [Case('start', 'start', load=(0, 0), issue=12), Case('start, issue 0', 'start', load=(2, 1), issue=0)]

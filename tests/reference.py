@@ -68,7 +68,8 @@ def acceleration(sheet, feet):
 SINGLE = {'l01': (0, 999), 'l02': (1, 999), 'phases': (1, 8), 'l18': (0, 400), 'l19': (1, 400), 'l20': (1, 150), 'l28': (0, 999),
           'l30': (200, 999), 'l31': (0, 999), 'l33': (0, 999), 'l37': (100, 999), 'l39': (0, 999), 'l47': (0, 400),
           'l56': (30, 999), 'l57': (1, 999), 'l58': (0, 100), 'points': (2, 16), 'issue': (1, 65535), 'grade': (-80, 80)}
-PHASE = [(1, 8), (0, 999), (0, 999), (30, 60), (0, 60), (0, 999), (0, 999), (0, 2)]
+MOST_PHASES = 8
+PHASE = [(1, MOST_PHASES), (0, 999), (0, 999), (30, 60), (0, 60), (0, 999), (0, 999), (0, 2)]
 
 
 def number(text, signed=False):
@@ -120,6 +121,18 @@ def read(text):
             return None if None in values else values
         return parse
 
+    def listed(t):
+        """'rising phase numbers and commas between, or 0 for none'"""
+        values = [number(p) for p in t.split(b',')]
+        return None if None in values or len(values) > MOST_PHASES else values
+
+    def dwell_fault(numbers):
+        if numbers == [0]:
+            return 0
+        if any(not 1 <= n <= MOST_PHASES for n in numbers):
+            return 2
+        return 3 if any(b <= a for a, b in zip(numbers, numbers[1:])) else 0
+
     def phase_fault(p):
         if any(not lo <= v <= hi for v, (lo, hi) in zip(p, PHASE)):
             return 2
@@ -146,6 +159,8 @@ def read(text):
     for _ in range(sheet['phases']):
         sheet['phase'].append(take(b'phase', many(8), phase_fault))
     sheet['track'] = take(b'track', many(2), lambda p: 0 if 30 <= p[0] <= 60 and 0 <= p[1] <= 60 else 2)
+    dwell = take(b'dwell', listed, dwell_fault)
+    sheet['dwell'] = [] if dwell == [0] else dwell
     for key in ('l18', 'l19', 'l20', 'l28', 'l30', 'l31', 'l33', 'l37', 'l39', 'l47', 'l56', 'l57', 'l58', 'points'):
         single(key)
     for _ in range(sheet['points']):
@@ -160,6 +175,8 @@ def read(text):
         raise Refused(9, 0)
     if sum(sheet['track']) > worst(sheet)[2]:
         raise Refused(10, 0)
+    if any(n not in [p[0] for p in sheet['phase']] for n in sheet['dwell']):
+        raise Refused(12, 0)
     return sheet
 
 

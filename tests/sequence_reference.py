@@ -6,6 +6,7 @@ import sys
 import reference
 
 NORMAL = ('track-green', 'track-yellow', 'track-red', 'phase')
+PHASES = ('phase', 'dwell-phase')      # a phase of normal operation, and one run in dwell
 
 
 class Unit:
@@ -17,7 +18,7 @@ class Unit:
         self.restart()
 
     def restart(self):
-        self.stage, self.count, self.spent, self.next = 'track-green', 0, 0, 0
+        self.stage, self.count, self.spent, self.next, self.leaving = 'track-green', 0, 0, 0, False
 
     def begun(self):
         return self.count == self.l3
@@ -25,12 +26,12 @@ class Unit:
     def enter(self, stage):
         self.stage, self.spent = stage, 0
 
-    def open(self, n):
-        self.stage, self.p, self.asked = 'phase', self.phases[n], False
+    def open(self, stage, n):
+        self.stage, self.p, self.asked = stage, self.phases[n], False
         self.light, self.spent, self.walker, self.steps = 'green', 0, 'walk', 0
 
     def length(self):
-        if self.stage == 'phase':
+        if self.stage in PHASES:
             return self.p['green'] + self.p['other'] if self.light == 'green' else self.p[self.light]
         return {'track-yellow': self.yellow, 'track-red': self.red, 'clearance-green': self.l51,
                 'clearance-yellow': self.yellow, 'clearance-red': self.red}.get(self.stage, 0)
@@ -38,7 +39,7 @@ class Unit:
     def add(self):
         """a time stops at its interval's length"""
         self.spent = min(self.spent + 1, self.length())
-        if self.stage == 'phase':
+        if self.stage in PHASES:
             self.steps = min(self.steps + 1, self.p[self.walker])
 
     def clearance_over(self):
@@ -55,14 +56,14 @@ class Unit:
             self.over()
         elif self.stage == 'phase' and not self.asked and self.begun():
             self.asked, self.next = True, 0
-        elif self.stage == 'phase' and self.asked and self.walker == 'walk' and self.steps >= self.p['walk']:
+        elif self.stage in PHASES and self.asked and self.walker == 'walk' and self.steps >= self.p['walk']:
             self.walker, self.steps = 'clearance', 0
-        elif self.stage == 'phase' and self.asked and self.light == 'green' and served and self.walker == 'clearance' \
+        elif self.stage in PHASES and self.asked and self.light == 'green' and served and self.walker == 'clearance' \
                 and (self.p['mode'] != 1 or self.clearance_over()):
             self.light, self.spent = 'yellow', 0
-        elif self.stage == 'phase' and self.light == 'yellow' and served:
+        elif self.stage in PHASES and self.light == 'yellow' and served:
             self.light, self.spent = 'red', 0
-        elif self.stage == 'phase' and self.light == 'red' and served and self.clearance_over():
+        elif self.stage in PHASES and self.light == 'red' and served and self.clearance_over():
             self.over()
         elif self.stage == 'clearance-green' and served:
             self.enter('clearance-yellow')
@@ -79,19 +80,38 @@ class Unit:
 
     def over(self):
         """the phase or the track red is over"""
-        if self.begun():
+        if self.stage == 'dwell-phase':
+            if self.leaving:
+                self.restart()
+            elif self.next == 0:
+                self.enter('dwell')
+            else:
+                self.open('dwell-phase', self.next)
+        elif self.begun():
             self.enter('clearance-green')
         elif self.next == 0:
             self.enter('track-green')
         else:
-            self.open(self.next)
+            self.open('phase', self.next)
 
     def settle(self, call):
         while self.change(call):
             pass
 
+    def may_follow(self, n):
+        """in a phase: 0 or another listed phase; in one run in dwell: 0 or another named one"""
+        return n == 0 or n != self.p['number'] and n in (self.phases if self.stage == 'phase' else self.sheet['dwell'])
+
+    def call_off(self):
+        """'When the call goes off, the running phase is ended by the ordinary rules before normal track green returns'"""
+        if self.stage == 'dwell':
+            self.restart()
+        else:
+            self.asked, self.next, self.leaving = True, 0, True
+
     def tick(self, end, call):
         """end: None, or the phase that is next; the reply's number"""
+        normal = self.stage in NORMAL
         self.add()
         self.settle(call)
         number = 0
@@ -99,15 +119,18 @@ class Unit:
             if self.stage == 'track-green' and end in self.phases:
                 self.enter('track-yellow')
                 self.next = end
-            elif self.stage == 'phase' and not self.asked and (end == 0 or end in self.phases and end != self.p['number']):
+            elif self.stage in PHASES and not self.asked and self.may_follow(end):
                 self.asked, self.next = True, end
+            elif self.stage == 'dwell' and end in self.sheet['dwell']:
+                self.open('dwell-phase', end)
             else:
                 number = 23
         self.settle(call)
-        if self.stage in NORMAL and not self.begun():
+        # 'a call back on meanwhile counts from the tick after that': a tick that did not begin in normal operation counts none
+        if normal and self.stage in NORMAL and not self.begun():
             self.count = self.count + 1 if call else 0
-        elif self.stage == 'dwell' and not call:
-            self.restart()
+        elif self.stage in ('dwell', 'dwell-phase') and not call:
+            self.call_off()
         self.settle(call)
         return number
 
@@ -120,10 +143,10 @@ class Unit:
         return 0
 
     def shown(self):
-        if self.stage != 'phase':
+        if self.stage not in PHASES:
             return self.stage, 0, '-'
         walker = '-' if self.p['mode'] == 0 or self.clearance_over() else self.walker
-        return 'phase-' + self.light, self.p['number'], walker
+        return ('phase-' if self.stage == 'phase' else 'dwell-') + self.light, self.p['number'], walker
 
 
 def bench(text):

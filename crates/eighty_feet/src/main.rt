@@ -40,6 +40,8 @@ fn example(grade: i16) -> Sheet {
         phases: phases(),
         track_yellow: 40,
         track_red: 20,
+        dwell_count: 0,
+        dwell: [0u32; 8],
         l18: 60,
         l19: 25,
         l20: 55,

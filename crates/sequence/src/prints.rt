@@ -33,7 +33,7 @@ pub(crate) fn state(tick: u64, unit: Running, answer: Answer) {
     let shown = shown::of(unit.sheet, stage);
     io::print_decimal(STDOUT_FILENO, tick);
     name(
-        b",track-green,      ,track-yellow,     ,track-red,        ,phase-green,      ,phase-yellow,     ,phase-red,        ,clearance-green,  ,clearance-yellow, ,clearance-red,    ,dwell,            ",
+        b",track-green,      ,track-yellow,     ,track-red,        ,phase-green,      ,phase-yellow,     ,phase-red,        ,clearance-green,  ,clearance-yellow, ,clearance-red,    ,dwell,            ,dwell-green,      ,dwell-yellow,     ,dwell-red,        ",
         shown.stage,
     );
     io::print_decimal(STDOUT_FILENO, shown.phase as u64);

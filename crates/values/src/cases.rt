@@ -6,9 +6,9 @@ use super::shown;
 use rows::NUMBERS;
 use sheet::Sheet;
 
-// The paper's sheet has 259 bytes.
+// The paper's sheet has 267 bytes.
 fn paper() -> Sheet {
-    reader::read(&shown::TEXT[0..259]).sheet
+    reader::read(&shown::TEXT[0..267]).sheet
 }
 
 fn put(numbers: &mut [u32; NUMBERS], place: u32, value: u32) {
