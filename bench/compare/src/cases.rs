@@ -16,11 +16,12 @@ pub enum Side {
 pub const SIDES: [(&str, Side); 3] = [("product", Side::Product), ("checks", Side::Checks), ("keeps", Side::Keeps)];
 
 /// Ticks without a command, the call on or off in all of them: of a unit handed over, or of one that runs on. The unit comes from a fresh start,
-/// an end to the phase `end` where that is not 0, and `before` ticks with the call `called`.
+/// and `before` ticks with the call `called`, after `ended` of which there is one with an end to the phase `end` where that is not 0.
 #[derive(Clone, Copy)]
 pub struct Ticks {
     running: bool,
     end: u32,
+    ended: u32,
     called: bool,
     before: u32,
     call: bool,
@@ -162,7 +163,7 @@ impl Start {
         };
         let end = (ticks.end > 0).then_some(ticks.end);
         for i in 0..ticks.before {
-            let end = end.filter(|_| i == 0);
+            let end = end.filter(|_| i == ticks.ended);
             let _ = start.product.ticks(end, ticks.called, 0);
             plain::tick(&mut start.plain, end, ticks.called);
             start.running.tick(end, ticks.called);
@@ -208,13 +209,27 @@ fn garbage() -> Vec<u8> {
     (0..1024).map(|_| next()).collect()
 }
 
+/// The text of a sheet, all of whose phases may run in dwell.
+fn with_dwell(text: &[u8]) -> Vec<u8> {
+    let mut sheet = plain::read(text).expect("a sheet of the repository");
+    sheet.dwell_count = sheet.phase_count;
+    sheet.dwell = sheet.phases.map(|p| p.number);
+    let mut out = vec![0; 1024];
+    let length = plain::write(&sheet, &mut out).expect("its phases are listed");
+    out.truncate(length);
+    out
+}
+
 pub fn all() -> Vec<(&'static str, Case)> {
     let paper = include_bytes!("../../../sheets/paper.sheet").to_vec();
     let eight = include_bytes!("../../../sheets/eight_phases.sheet").to_vec();
     let unended = paper[..paper.len() - 1].to_vec();
-    let green = Ticks { running: false, end: 0, called: false, before: 0, call: false, count: 400 };
+    let dwelling = with_dwell(&paper);
+    let green = Ticks { running: false, end: 0, ended: 0, called: false, before: 0, call: false, count: 400 };
     let phase = Ticks { end: 4, before: 61, ..green };
     let clearance = Ticks { called: true, before: 2, call: true, ..green };
+    // dwell begins with tick 552, and the phase in the tick after it
+    let in_dwell = Ticks { end: 4, ended: 552, before: 553, ..clearance };
     let last_phase = Ticks { end: 8, before: 55, count: 200, ..green };
     let ticks = |text: &[u8], t: Ticks| Case::Ticks(Box::new(Start::of(text, &t)), t);
     let running = |text: &[u8], t| ticks(text, Ticks { running: true, ..t });
@@ -233,5 +248,6 @@ pub fn all() -> Vec<(&'static str, Case)> {
         ("running-phase-paper", running(&paper, phase)),
         ("running-clearance-paper", running(&paper, clearance)),
         ("running-phase-eight", running(&eight, last_phase)),
+        ("running-dwell-paper", running(&dwelling, in_dwell)),
     ]
 }

@@ -2,7 +2,8 @@
 
 use crate::product::Numbers;
 use crate::random::Random;
-use crate::sheets::{longest_transfer, ranges, warning, KEYS, L18, L19, L20, L31, L47, PHASES, POINTS, TRACK};
+use crate::sheets::{joined, listed, longest_transfer, ranges, warning, KEYS};
+use crate::sheets::{DWELL, L18, L19, L20, L31, L47, PHASES, POINTS, TRACK};
 
 /// The ends of a range, and the numbers just past them.
 fn edge(random: &mut Random, (least, most): (u32, u32)) -> u32 {
@@ -21,14 +22,14 @@ pub fn value(random: &mut Random, n: &mut Numbers) {
     };
 }
 
-/// A rule between numbers, kept with equality or broken by one: refusals 3 to 10.
+/// A rule between numbers, kept with equality or broken by one: refusals 3 to 10 and 12.
 pub fn rule(random: &mut Random, n: &mut Numbers) {
     let phases = n[PHASES - 1] as usize;
     let points = n[POINTS - 1] as usize;
     let phase = PHASES + 8 * random.below(phases);
     let point = POINTS + 2 * random.below(points);
     let over = random.below(2) as u32;
-    match random.below(8) {
+    match random.below(10) {
         0 => n[phase] = random.within(1, 8),
         1 => n[point + random.below(2)] = random.within(0, 400),
         2 => {
@@ -47,6 +48,23 @@ pub fn rule(random: &mut Random, n: &mut Numbers) {
             n[L47] = (last + over).saturating_sub(n[L19] + n[L20]);
             n[L18] = n[L18].max(n[L47]).min(400);
         }
+        // numbers for dwell that need not rise
+        7 => {
+            let count = random.within(1, 8);
+            n[DWELL - 1] = count;
+            n[DWELL..][..count as usize].fill_with(|| random.within(1, 8));
+        }
+        // those listed, and one that need not be
+        8 => {
+            let mut named = listed(n);
+            let number = random.within(1, 8);
+            if !named.contains(&number) {
+                named.push(number);
+                named.sort_unstable();
+            }
+            n[DWELL - 1] = named.len() as u32;
+            n[DWELL..][..named.len()].copy_from_slice(&named);
+        }
         _ => {
             let longest = longest_transfer(n);
             n[TRACK] = longest.clamp(30, 60);
@@ -55,10 +73,13 @@ pub fn rule(random: &mut Random, n: &mut Numbers) {
     }
 }
 
-/// Entries past both counts, which are no part of a sheet.
+/// Entries past the counts, which are no part of a sheet.
 pub fn past_the_counts(random: &mut Random, n: &mut Numbers) {
-    let ends =
-        [(PHASES + 8 * n[PHASES - 1].min(8) as usize, TRACK), (POINTS + 2 * n[POINTS - 1].min(16) as usize, n.len())];
+    let ends = [
+        (PHASES + 8 * n[PHASES - 1].min(8) as usize, TRACK),
+        (DWELL + n[DWELL - 1].min(8) as usize, L18),
+        (POINTS + 2 * n[POINTS - 1].min(16) as usize, n.len()),
+    ];
     for (from, to) in ends {
         for x in &mut n[from..to] {
             *x = random.below(65536) as u32;
@@ -91,10 +112,30 @@ fn number(random: &mut Random, line: &mut Vec<u8>) {
     *line = format!("{key}={}\n", values.join(",")).into_bytes();
 }
 
+/// Numbers for dwell: not well made, too many, out of range, not rising; a fault of one kind before one of another.
+#[rustfmt::skip]
+const LISTS: [&str; 26] = [
+    "", ",", "2,", ",2", "2,,4", "00", "02", "0,", "-2", "2 ", "2, 4", "1000000", "2,1000000", "4,2,1000000",
+    "1,2,3,4,5,6,7,8,9", "1,2,3,4,5,6,7,8,", "8,7,6,5,4,3,2,1,0",
+    "9", "0,2", "2,0", "0,0", "65538", "999999", "4,2,9",
+    "4,2", "1,2,3,4,5,6,7,8",
+];
+
+/// The line for dwell with other numbers.
+fn dwell(random: &mut Random, lines: &mut [Vec<u8>]) {
+    let Some(line) = lines.iter_mut().find(|line| line.starts_with(b"dwell=")) else { return };
+    let list = if random.one_in(4) {
+        joined(&(0..1 + random.below(9)).map(|_| random.within(0, 9)).collect::<Vec<_>>())
+    } else {
+        random.of_these(&LISTS).to_string()
+    };
+    *line = format!("dwell={list}\n").into_bytes();
+}
+
 /// A text that is no longer as it was written.
 pub fn text(random: &mut Random, mut lines: Vec<Vec<u8>>) -> Vec<u8> {
     let line = random.below(lines.len());
-    match random.below(12) {
+    match random.below(13) {
         0 | 1 | 2 => number(random, &mut lines[line]),
         3 => drop(lines.remove(line)),
         4 => lines.insert(line, lines[line].clone()),
@@ -102,6 +143,7 @@ pub fn text(random: &mut Random, mut lines: Vec<Vec<u8>>) -> Vec<u8> {
             let other = random.below(lines.len());
             lines.swap(line, other);
         }
+        6 => dwell(random, &mut lines),
         _ => return bytes(random, lines.concat()),
     }
     lines.concat()

@@ -2,10 +2,11 @@
 
 use plain::Refused;
 
-pub const NUMBERS: usize = 118;
+pub const NUMBERS: usize = 127;
 pub const LINES: usize = 61;
 
-/// A sheet as the numbers of its text in their order: vehicles 0 to 3, the grade 1,000,000 more, and every entry of both lists.
+/// A sheet as the numbers of its text in their order: vehicles 0 to 3, the grade 1,000,000 more, the count of the numbers for
+/// dwell before them, and every entry of all lists.
 pub type Numbers = [u32; NUMBERS];
 pub type Answer = Result<(), Refused>;
 

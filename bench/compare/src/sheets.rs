@@ -1,6 +1,6 @@
 //! Sheets over the whole of their ranges, as numbers, as values of the plain crate, and as texts.
 
-use crate::product::Numbers;
+use crate::product::{Numbers, NUMBERS};
 use crate::random::Random;
 use plain::{Phase, Point, Sheet, Vehicle};
 
@@ -8,17 +8,19 @@ pub const L01: usize = 3;
 pub const L02: usize = 4;
 pub const PHASES: usize = 6;
 pub const TRACK: usize = 70;
-pub const L18: usize = 72;
-pub const L19: usize = 73;
-pub const L20: usize = 74;
-pub const L31: usize = 77;
-pub const L33: usize = 78;
-pub const L39: usize = 80;
-pub const L47: usize = 81;
-pub const POINTS: usize = 86;
+pub const DWELL: usize = 73;
+pub const L18: usize = 81;
+pub const L19: usize = 82;
+pub const L20: usize = 83;
+pub const L31: usize = 86;
+pub const L33: usize = 87;
+pub const L39: usize = 89;
+pub const L47: usize = 90;
+pub const POINTS: usize = 95;
 
-/// The lines of a text: key, and the range of each number. A grade's is 1,000,000 more; a vehicle is a word.
-pub const KEYS: [(&str, &[(u32, u32)]); 23] = [
+/// The lines of a text: key, and the range of each number. A grade's is 1,000,000 more; a vehicle is a word; the first of dwell is the count of
+/// the others, which does not stand in a text.
+pub const KEYS: [(&str, &[(u32, u32)]); 24] = [
     ("issue", &[(1, 65535)]),
     ("vehicle", &[(0, 3)]),
     ("grade", &[(999920, 1000080)]),
@@ -27,6 +29,7 @@ pub const KEYS: [(&str, &[(u32, u32)]); 23] = [
     ("phases", &[(1, 8)]),
     ("phase", &[(1, 8), (0, 999), (0, 999), (30, 60), (0, 60), (0, 999), (0, 999), (0, 2)]),
     ("track", &[(30, 60), (0, 60)]),
+    ("dwell", &[(0, 8), (1, 8), (1, 8), (1, 8), (1, 8), (1, 8), (1, 8), (1, 8), (1, 8)]),
     ("l18", &[(0, 400)]),
     ("l19", &[(1, 400)]),
     ("l20", &[(1, 150)]),
@@ -101,13 +104,28 @@ fn rising(random: &mut Random, count: usize, last: u32) -> Vec<u32> {
     all
 }
 
+/// The numbers of the phases listed.
+pub fn listed(n: &Numbers) -> Vec<u32> {
+    n[PHASES..TRACK].chunks(8).take(n[PHASES - 1] as usize).map(|p| p[0]).collect()
+}
+
+/// Some of the phases listed, none, or all.
+fn dwell(random: &mut Random, n: &Numbers) -> Vec<u32> {
+    match random.below(6) {
+        0 => Vec::new(),
+        1 => listed(n),
+        _ => listed(n).into_iter().filter(|_| random.one_in(2)).collect(),
+    }
+}
+
 /// A sheet that is accepted.
 pub fn accepted(random: &mut Random, times: Times) -> Numbers {
-    let mut n = [0; 118];
+    let mut n: Numbers = [0; NUMBERS];
     for (place, (least, most)) in ranges().into_iter().enumerate() {
         n[place] = random.within(least, most);
     }
     n[PHASES..TRACK].fill(0);
+    n[DWELL - 1..L18].fill(0);
     n[POINTS..].fill(0);
     n[L01] = random.within(0, times.at_most(3, 999));
     n[L02] = random.within(1, times.at_most(4, 999));
@@ -120,6 +138,10 @@ pub fn accepted(random: &mut Random, times: Times) -> Numbers {
     for (i, number) in rising(random, count, last).into_iter().enumerate() {
         n[PHASES + 8 * i..][..8].copy_from_slice(&phase(random, number, times));
     }
+
+    let named = dwell(random, &n);
+    n[DWELL - 1] = named.len() as u32;
+    n[DWELL..][..named.len()].copy_from_slice(&named);
 
     let count = random.within(2, 16) as usize;
     n[POINTS - 1] = count as u32;
@@ -158,6 +180,10 @@ pub fn longest_transfer(n: &Numbers) -> u32 {
     n[PHASES..TRACK].chunks(8).take(n[PHASES - 1] as usize).map(time).max().unwrap_or(0)
 }
 
+pub fn joined(values: &[u32]) -> String {
+    values.iter().map(u32::to_string).collect::<Vec<_>>().join(",")
+}
+
 /// The lines of a sheet's text, each with its line feed.
 pub fn text(n: &Numbers) -> Vec<Vec<u8>> {
     let mut lines = Vec::new();
@@ -173,7 +199,9 @@ pub fn text(n: &Numbers) -> Vec<Vec<u8>> {
             let word = match key {
                 "vehicle" => ["car", "su", "bus", "wb50"][values[0] as usize].to_string(),
                 "grade" => (i64::from(values[0]) - 1_000_000).to_string(),
-                _ => values.iter().map(u32::to_string).collect::<Vec<_>>().join(","),
+                "dwell" if values[0] == 0 => "0".to_string(),
+                "dwell" => joined(&values[1..][..values[0].min(8) as usize]),
+                _ => joined(values),
             };
             lines.push(format!("{key}={word}\n").into_bytes());
         }
@@ -194,19 +222,21 @@ pub fn sheet(n: &Numbers) -> Sheet {
         phase_count: n[PHASES - 1] as u8,
         track_yellow: small(TRACK),
         track_red: small(TRACK + 1),
+        dwell_count: n[DWELL - 1] as u8,
+        dwell: std::array::from_fn(|i| small(DWELL + i)),
         l18: small(L18),
         l19: small(L19),
         l20: small(L20),
-        l28: small(75),
-        l30: small(76),
+        l28: small(84),
+        l30: small(85),
         l31: small(L31),
         l33: small(L33),
-        l37: small(79),
+        l37: small(88),
         l39: small(L39),
         l47: small(L47),
-        l56: small(82),
-        l57: small(83),
-        l58: small(84),
+        l56: small(91),
+        l57: small(92),
+        l58: small(93),
         point_count: n[POINTS - 1] as u8,
         ..Sheet::default()
     };
@@ -236,7 +266,9 @@ pub fn numbers(s: &Sheet) -> Numbers {
     for p in &s.phases {
         all.extend([p.number, p.green, p.other, p.yellow, p.red, p.walk, p.clearance, p.mode].map(u32::from));
     }
-    all.extend([s.track_yellow, s.track_red, s.l18, s.l19, s.l20, s.l28, s.l30, s.l31].map(u32::from));
+    all.extend([s.track_yellow, s.track_red, s.dwell_count.into()].map(u32::from));
+    all.extend(s.dwell.map(u32::from));
+    all.extend([s.l18, s.l19, s.l20, s.l28, s.l30, s.l31].map(u32::from));
     all.extend([s.l33, s.l37, s.l39, s.l47, s.l56, s.l57, s.l58, s.point_count.into()].map(u32::from));
     for p in &s.points {
         all.extend([p.feet, p.tenths].map(u32::from));

@@ -1,7 +1,7 @@
 //! The plain crate's stages as the numbers that the proved crate `state` gives them.
 
 use crate::random::Random;
-use plain::{Light, Phase, Sheet, Stage, Unit, Walker};
+use plain::{Light, Phase, Place, Sheet, Stage, Then, Unit, Walker};
 
 pub type Numbers = ([u32; 7], [u64; 3]);
 
@@ -23,10 +23,15 @@ fn by(unit: &Unit, begun: bool) -> Numbers {
         Stage::ClearanceYellow { spent } => track(1, [3, 0], 1, spent),
         Stage::ClearanceRed { spent } => track(2, [3, 0], 1, spent),
         Stage::ClearanceGreen { spent } => track(5, [0, 0], 0, spent),
-        Stage::Dwell => track(6, [0, 0], 0, 0),
-        Stage::Open { phase, green, walk } => ([3, 0, 0, 0, phase.into(), 0, 0], [green, walk]),
-        Stage::Ending { phase, next, light, walker } => {
-            let [then, next] = follows(next, begun);
+        Stage::AllRed => track(6, [0, 0], 0, 0),
+        Stage::Open { place, phase, green, walk } => ([3, place as u32, 0, 0, phase.into(), 0, 0], [green, walk]),
+        Stage::Ending { phase, then, light, walker } => {
+            let (place, [then, next]) = match then {
+                Then::Normal(next) => (Place::Normal, follows(next, begun)),
+                Then::Dwell(0) => (Place::Dwell, [4, 0]),
+                Then::Dwell(next) => (Place::Dwell, [1, next.into()]),
+                Then::Return => (Place::Dwell, [0, 0]),
+            };
             let (light, spent) = match light {
                 Light::Green(k) => (0, k),
                 Light::Yellow(k) => (1, k),
@@ -36,7 +41,7 @@ fn by(unit: &Unit, begun: bool) -> Numbers {
                 Walker::Walk(k) => (0, k),
                 Walker::Clearance(k) => (1, k),
             };
-            ([4, 0, then, next, phase.into(), light, walker], [spent, walked])
+            ([4, place as u32, then, next, phase.into(), light, walker], [spent, walked])
         }
     };
     (stage, [spent, walked, unit.count].map(u64::from))
@@ -61,12 +66,15 @@ pub fn name(unit: &Unit) -> &'static str {
         Stage::TrackGreen => "after it: track green",
         Stage::TrackYellow { .. } => "after it: track yellow",
         Stage::TrackRed { .. } => "after it: track red",
-        Stage::Open { .. } => "after it: phase",
-        Stage::Ending { .. } => "after it: phase ending",
+        Stage::Open { place: Place::Normal, .. } => "after it: phase",
+        Stage::Open { place: Place::Dwell, .. } => "after it: dwell, phase",
+        Stage::Ending { then: Then::Normal(_), .. } => "after it: phase ending",
+        Stage::Ending { then: Then::Dwell(_), .. } => "after it: dwell, phase ending",
+        Stage::Ending { then: Then::Return, .. } => "after it: dwell, call gone off",
         Stage::ClearanceGreen { .. } => "after it: clearance green",
         Stage::ClearanceYellow { .. } => "after it: clearance yellow",
         Stage::ClearanceRed { .. } => "after it: clearance red",
-        Stage::Dwell => "after it: dwell",
+        Stage::AllRed => "after it: dwell, all red",
     }
 }
 
@@ -96,15 +104,18 @@ pub fn any(random: &mut Random, sheet: Sheet) -> Unit {
     let (yellow, red) = (u32::from(sheet.track_yellow), u32::from(sheet.track_red));
     let green = u32::from(p.green) + u32::from(p.other);
     let l51 = plain::worksheet::lengths(&sheet).l51;
-    let stage = match random.below(9) {
+    let stage = match random.below(10) {
         0 => Stage::TrackGreen,
         1 => Stage::TrackYellow { next, spent: spent(random, yellow) },
         2 => Stage::TrackRed { next, spent: spent(random, red) },
-        3 => Stage::Open { phase, green: spent(random, green), walk: spent(random, p.walk.into()) },
+        3 => {
+            let place = random.of_these(&[Place::Normal, Place::Dwell]);
+            Stage::Open { place, phase, green: spent(random, green), walk: spent(random, p.walk.into()) }
+        }
         4 => Stage::ClearanceGreen { spent: spent(random, l51) },
         5 => Stage::ClearanceYellow { spent: spent(random, yellow) },
         6 => Stage::ClearanceRed { spent: spent(random, red) },
-        7 => Stage::Dwell,
+        7 => Stage::AllRed,
         _ => {
             let light = match random.below(3) {
                 0 => Light::Green(spent(random, green)),
@@ -115,7 +126,8 @@ pub fn any(random: &mut Random, sheet: Sheet) -> Unit {
                 0 => Walker::Walk(spent(random, p.walk.into())),
                 _ => Walker::Clearance(spent(random, p.clearance.into())),
             };
-            Stage::Ending { phase, next, light, walker }
+            let then = random.of_these(&[Then::Normal(next), Then::Dwell(next), Then::Return]);
+            Stage::Ending { phase, then, light, walker }
         }
     };
     let count = spent(random, u32::from(sheet.l01) + u32::from(sheet.l02));

@@ -111,10 +111,12 @@ fn command(random: &mut Random, unit: &Unit) -> Option<u32> {
         return None;
     }
     let listed: Vec<u32> = unit.sheet.listed().iter().map(|p| p.number.into()).collect();
+    let named = unit.sheet.named();
     Some(match random.below(8) {
         0 => random.below(10) as u32,
         1 => random.of_these(&[9, 255, 65536, 65538, u32::MAX - 2]),
         2 => 0,
+        3 | 4 if !named.is_empty() => random.of_these(named).into(),
         _ if listed.is_empty() => 1,
         _ => random.of_these(&listed),
     })

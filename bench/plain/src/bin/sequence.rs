@@ -1,7 +1,7 @@
 //! The cabinet on the desk: a site sheet on standard input, a line `run`, then one event a line; on standard output what the unit shows.
 //! Each tick and load is made by both units, the one that is checked whole and the one that runs on, and the two must agree.
 
-use plain::{Light, Refused, Running, Stage, Unit, Walker};
+use plain::{Light, Place, Refused, Running, Stage, Then, Unit, Walker};
 use std::io::{self, Read, Write};
 
 type Shown = (&'static str, u16, &'static str);
@@ -16,23 +16,27 @@ fn shown(unit: &Unit) -> Shown {
             Walker::Clearance(_) => "-",
         }
     };
+    let named = |place: Place, normal, dwell| if place == Place::Dwell { dwell } else { normal };
     match unit.stage {
         Stage::TrackGreen => ("track-green", 0, "-"),
         Stage::TrackYellow { .. } => ("track-yellow", 0, "-"),
         Stage::TrackRed { .. } => ("track-red", 0, "-"),
-        Stage::Open { phase, walk, .. } => ("phase-green", phase, walker(phase, Walker::Walk(walk))),
-        Stage::Ending { phase, light, walker: w, .. } => {
+        Stage::Open { place, phase, walk, .. } => {
+            (named(place, "phase-green", "dwell-green"), phase, walker(phase, Walker::Walk(walk)))
+        }
+        Stage::Ending { phase, then, light, walker: w } => {
+            let place = if matches!(then, Then::Normal(_)) { Place::Normal } else { Place::Dwell };
             let stage = match light {
-                Light::Green(_) => "phase-green",
-                Light::Yellow(_) => "phase-yellow",
-                Light::Red(_) => "phase-red",
+                Light::Green(_) => named(place, "phase-green", "dwell-green"),
+                Light::Yellow(_) => named(place, "phase-yellow", "dwell-yellow"),
+                Light::Red(_) => named(place, "phase-red", "dwell-red"),
             };
             (stage, phase, walker(phase, w))
         }
         Stage::ClearanceGreen { .. } => ("clearance-green", 0, "-"),
         Stage::ClearanceYellow { .. } => ("clearance-yellow", 0, "-"),
         Stage::ClearanceRed { .. } => ("clearance-red", 0, "-"),
-        Stage::Dwell => ("dwell", 0, "-"),
+        Stage::AllRed => ("dwell", 0, "-"),
     }
 }
 
