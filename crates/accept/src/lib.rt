@@ -52,7 +52,8 @@ fn head_fault(s: Sheet) -> Answer
     let none = Answer::Fine;
     let issue = next(none, table::ISSUE, s.issue);
     let grade = next(issue, table::GRADE, graded::grade_number(s.grade));
-    let l01 = next(grade, table::L01, s.l01);
+    let grade2 = next(grade, table::GRADE2, graded::grade_number(s.grade2));
+    let l01 = next(grade2, table::L01, s.l01);
     let l02 = next(l01, table::L02, s.l02);
     next(l02, table::PHASES, s.phase_count)
 }

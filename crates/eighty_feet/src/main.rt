@@ -34,6 +34,7 @@ fn example(grade: i16) -> Sheet {
         issue: 1,
         vehicle: Vehicle::Wb50,
         grade: grade,
+        grade2: grade,
         l01: 0,
         l02: 2,
         phase_count: 1,

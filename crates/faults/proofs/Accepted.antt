@@ -300,7 +300,7 @@ module _ (s : Sheet) (h : Sound s) where
   head-ranges : Plain (flatOf s) firstPhase 0
   unfolding flatOf placeOf widthOf rangesOf kindOf
   head-ranges =
-      ((h .issue, tt), ((vehicle-range (s .vehicle), tt), ((h .grade, tt), ((up-to (h .l01), tt), ((h .l02, tt), ((h .«phase_count», tt), tt))))))
+      ((h .issue, tt), ((vehicle-range (s .vehicle), tt), ((h .grade, tt), ((h .grade2, tt), ((up-to (h .l01), tt), ((h .l02, tt), ((h .«phase_count», tt), tt)))))))
 
   track-ranges : Plain (flatOf s) 1 afterPhases
   unfolding flatOf numbersFrom placeOf widthOf rangesOf kindOf

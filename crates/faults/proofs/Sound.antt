@@ -318,6 +318,7 @@ sound s e =
     record {
       issue = number s l (rowFor "issue") (omega arith) refl 0 (omega arith);
       grade = number s l (rowFor "grade") (omega arith) refl 0 (omega arith);
+      grade2 = number s l (rowFor "grade2") (omega arith) refl 0 (omega arith);
       l01 = number s l (rowFor "l01") (omega arith) refl 0 (omega arith) .high;
       l02 = number s l (rowFor "l02") (omega arith) refl 0 (omega arith);
       «phase_count» = phases;

@@ -37,6 +37,7 @@ pub record SoundPoint (p : Point) : Type 0 where
 pub record Sound (s : Sheet) : Type 0 where
   pub issue : Between 1 (s .issue) 65535
   pub grade : Between 999920 (gradeNumber (s .grade)) 1000080
+  pub grade2 : Between 999920 (gradeNumber (s .grade2)) 1000080
   pub l01 : s .l01 ≤ 999
   pub l02 : Between 1 (s .l02) 999
   pub «phase_count» : Between 1 (s .«phase_count») 8

@@ -33,6 +33,7 @@ sideStreets =
       issue = 0;
       vehicle = Car;
       grade = pos 0;
+      grade2 = pos 0;
       l01 = 0;
       l02 = 0;
       «phase_count» = 3;

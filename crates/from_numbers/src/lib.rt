@@ -70,16 +70,18 @@ fn sheet_with(
     numbers: &[u32; NUMBERS],
     vehicle: Vehicle,
     grade: i16,
+    grade2: i16,
     phases: [Phase; MOST_PHASES],
     dwell: [u32; MOST_PHASES],
     points: [Point; MOST_POINTS],
 ) -> Sheet
-    ensures { λ r. ⌜ r ≡ sheetWith (now (numbers .entry)) vehicle grade phases dwell points ⌝ }
+    ensures { λ r. ⌜ r ≡ sheetWith (now (numbers .entry)) vehicle grade grade2 phases dwell points ⌝ }
 {
     Sheet {
         issue: numbers[table::ISSUE],
         vehicle: vehicle,
         grade: grade,
+        grade2: grade2,
         l01: numbers[table::L01],
         l02: numbers[table::L02],
         phase_count: numbers[table::PHASES],
@@ -112,8 +114,9 @@ pub fn sheet_of(numbers: &[u32; NUMBERS]) -> Sheet
 {
     let vehicle = vehicle_of(numbers[table::VEHICLE]);
     let grade = grade_of(numbers[table::GRADE]);
+    let grade2 = grade_of(numbers[table::GRADE2]);
     let phases = phases_of(numbers);
     let dwell = entries::list_at(numbers, table::DWELL_ROW);
     let points = points_of(numbers);
-    sheet_with(numbers, vehicle, grade, phases, dwell, points)
+    sheet_with(numbers, vehicle, grade, grade2, phases, dwell, points)
 }

@@ -4,7 +4,7 @@ ghost use Prim.Native.Nat.{_+_};
 ghost use Rattle.rows.specs.Longest.{longest};
 
 // The longest text that a sheet can have, and room for it and one byte: with so much a program sees that a text is longer.
-pub const LONGEST: usize = 1131;
+pub const LONGEST: usize = 1146;
 
 pub const BUFFER: usize = LONGEST + 1;
 

@@ -1,4 +1,4 @@
--- A sheet's numbers and the numbers' sheet undo each other: entry by entry, where the vehicle and the grade are in reach. Assumes nothing.
+-- A sheet's numbers and the numbers' sheet undo each other: entry by entry, where the vehicle and the grades are in reach. Assumes nothing.
 use mathlib.Core.Path.{_≡_, refl, _∙_}
 use mathlib.Core.List.{List, _∷_}
 use Prim.Native.Nat.{ℕ, zero, suc, _+_, _-_, _%_, _<_, _≤_}
@@ -58,18 +58,18 @@ grade-number-again x h =
     (λ t. rw t (down-number ((1000000 - x) % 1000) (omega (arith, h .0, ltb-true x 1000000 t)) ∙ omega (arith, h .0, ltb-true x 1000000 t)))
     (λ t. rw t (omega (arith, h .1, ltb-false x 1000000 t)))
 
-with-parts : (v : List ℕ) (a b : ℕ) → a ≡ getD v (placeFor "vehicle") 0 → b ≡ getD v (placeFor "grade") 0
-    → getD v 0 0 ∷ a ∷ b ∷ entriesFrom (λ (i : ℕ). getD v i 0) (numberCount - placeFor "l01") (placeFor "l01") ≡ entriesFrom (λ (i : ℕ). getD v i 0) numberCount 0
+with-parts : (v : List ℕ) (a b c : ℕ) → a ≡ getD v (placeFor "vehicle") 0 → b ≡ getD v (placeFor "grade") 0 → c ≡ getD v (placeFor "grade2") 0
+    → getD v 0 0 ∷ a ∷ b ∷ c ∷ entriesFrom (λ (i : ℕ). getD v i 0) (numberCount - placeFor "l01") (placeFor "l01") ≡ entriesFrom (λ (i : ℕ). getD v i 0) numberCount 0
 unfolding entriesFrom
-with-parts v a b ea eb = λ i. getD v 0 0 ∷ ea i ∷ eb i ∷ entriesFrom (λ (i : ℕ). getD v i 0) (numberCount - placeFor "l01") (placeFor "l01")
+with-parts v a b c ea eb ec = λ i. getD v 0 0 ∷ ea i ∷ eb i ∷ ec i ∷ entriesFrom (λ (i : ℕ). getD v i 0) (numberCount - placeFor "l01") (placeFor "l01")
 
-pub numbers-again : (v : List ℕ) → length v ≡ numberCount → getD v (placeFor "vehicle") 0 ≤ 3 → Graded (getD v (placeFor "grade") 0) → flatOf (sheetOf v) ≡ v
+pub numbers-again : (v : List ℕ) → length v ≡ numberCount → getD v (placeFor "vehicle") 0 ≤ 3 → Graded (getD v (placeFor "grade") 0) → Graded (getD v (placeFor "grade2") 0) → flatOf (sheetOf v) ≡ v
 unfolding flatOf numbersFrom entriesFrom
-numbers-again v l hv hg =
-    with-parts v (vehicleNumber (vehicleOf (getD v (placeFor "vehicle") 0))) (gradeNumber (gradeOf (getD v (placeFor "grade") 0))) (vehicle-number-again (getD v (placeFor "vehicle") 0) hv) (grade-number-again (getD v (placeFor "grade") 0) hg)
+numbers-again v l hv hg h2 =
+    with-parts v (vehicleNumber (vehicleOf (getD v (placeFor "vehicle") 0))) (gradeNumber (gradeOf (getD v (placeFor "grade") 0))) (gradeNumber (gradeOf (getD v (placeFor "grade2") 0))) (vehicle-number-again (getD v (placeFor "vehicle") 0) hv) (grade-number-again (getD v (placeFor "grade") 0) hg) (grade-number-again (getD v (placeFor "grade2") 0) h2)
     ∙ entries-all v numberCount 0 l
 
-pub sheet-again : (s : Sheet) → length (s .phases) ≡ mostPhases → length (s .dwell) ≡ mostPhases → length (s .points) ≡ mostPoints → Graded (gradeNumber (s .grade)) → sheetOf (flatOf s) ≡ s
+pub sheet-again : (s : Sheet) → length (s .phases) ≡ mostPhases → length (s .dwell) ≡ mostPhases → length (s .points) ≡ mostPoints → Graded (gradeNumber (s .grade)) → Graded (gradeNumber (s .grade2)) → sheetOf (flatOf s) ≡ s
 unfolding flatOf numbersFrom entriesFrom
-sheet-again s lp ld lq hg =
-    λ i. sheetWith (flatOf s) (vehicle-again (s .vehicle) i) (grade-again (s .grade) hg i) (entries-all (s .phases) mostPhases zeroPhase lp i) (entries-all (s .dwell) mostPhases 0 ld i) (entries-all (s .points) mostPoints zeroPoint lq i)
+sheet-again s lp ld lq hg h2 =
+    λ i. sheetWith (flatOf s) (vehicle-again (s .vehicle) i) (grade-again (s .grade) hg i) (grade-again (s .grade2) h2 i) (entries-all (s .phases) mostPhases zeroPhase lp i) (entries-all (s .dwell) mostPhases 0 ld i) (entries-all (s .points) mostPoints zeroPoint lq i)

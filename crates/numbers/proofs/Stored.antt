@@ -9,12 +9,12 @@ use Rattle.sheet.specs.Zero.{zeroPhase, zeroPoint}
 use Rattle.rows.specs.Table.{mostPhases, mostPoints, numberCount, placeFor}
 use Rattle.numbers.specs.Flat.{vehicleNumber, gradeNumber, phaseNumbers, pointNumbers, itself, numbersFrom, dwellPlace, flatOf}
 
--- all but the phases, the numbers for dwell and the points, with the vehicle's and the grade's numbers v and g
-abbrev pub plain : Sheet → ℕ → ℕ → List ℕ
-plain s v g =
+-- all but the phases, the numbers for dwell and the points, with the vehicle's and the grades' numbers v, g and h
+abbrev pub plain : Sheet → ℕ → ℕ → ℕ → List ℕ
+plain s v g h =
     sets
     (sets
-    (sets (replicate numberCount 0) 0 (s .issue ∷ v ∷ g ∷ s .l01 ∷ s .l02 ∷ s .«phase_count» ∷ []))
+    (sets (replicate numberCount 0) 0 (s .issue ∷ v ∷ g ∷ h ∷ s .l01 ∷ s .l02 ∷ s .«phase_count» ∷ []))
     (placeFor "track")
     (s .«track_yellow» ∷ s .«track_red» ∷ s .«dwell_count» ∷ []))
     (placeFor "l18")
@@ -30,8 +30,8 @@ module _ (s : Sheet) where
   abbrev pub withPoints : List ℕ → List ℕ
   withPoints v = sets v (placeFor "point") (numbersFrom pointNumbers zeroPoint mostPoints 0 (s .points))
 
-  pub stored : (v g : ℕ) (a b c : List ℕ) → v ≡ vehicleNumber (s .vehicle) → g ≡ gradeNumber (s .grade)
-      → a ≡ withPhases (plain s v g) → b ≡ withDwell a → c ≡ withPoints b → c ≡ flatOf s
+  pub stored : (v g h : ℕ) (a b c : List ℕ) → v ≡ vehicleNumber (s .vehicle) → g ≡ gradeNumber (s .grade) → h ≡ gradeNumber (s .grade2)
+      → a ≡ withPhases (plain s v g h) → b ≡ withDwell a → c ≡ withPoints b → c ≡ flatOf s
   unfolding flatOf numbersFrom
-  stored v g a b c ev eg ea eb ec =
-      ec ∙ (λ i. withPoints (eb i)) ∙ (λ i. withPoints (withDwell (ea i))) ∙ (λ i. withPoints (withDwell (withPhases (plain s (ev i) (eg i)))))
+  stored v g h a b c ev eg eh ea eb ec =
+      ec ∙ (λ i. withPoints (eb i)) ∙ (λ i. withPoints (withDwell (ea i))) ∙ (λ i. withPoints (withDwell (withPhases (plain s (ev i) (eg i) (eh i)))))

@@ -45,6 +45,7 @@ flatOf s =
     s .issue
     ∷ vehicleNumber (s .vehicle)
     ∷ gradeNumber (s .grade)
+    ∷ gradeNumber (s .grade2)
     ∷ s .l01
     ∷ s .l02
     ∷ s .«phase_count»
@@ -114,12 +115,13 @@ abbrev pub listNumbers : List ℕ → ℕ → List ℕ
 listNumbers v at = entriesFrom (λ (i : ℕ). getD v (at + 1 + i) 0) mostPhases 0
 
 -- with the parts that are more than a number
-abbrev pub sheetWith : List ℕ → Vehicle → ℤ → List Phase → List ℕ → List Point → Sheet
-sheetWith v vehicle grade phases dwell points =
+abbrev pub sheetWith : List ℕ → Vehicle → ℤ → ℤ → List Phase → List ℕ → List Point → Sheet
+sheetWith v vehicle grade grade2 phases dwell points =
     record {
       issue = getD v (placeFor "issue") 0;
       vehicle = vehicle;
       grade = grade;
+      grade2 = grade2;
       l01 = getD v (placeFor "l01") 0;
       l02 = getD v (placeFor "l02") 0;
       «phase_count» = getD v (placeFor "phases") 0;
@@ -146,4 +148,4 @@ sheetWith v vehicle grade phases dwell points =
     }
 
 abbrev pub sheetOf : List ℕ → Sheet
-sheetOf v = sheetWith v (vehicleOf (getD v (placeFor "vehicle") 0)) (gradeOf (getD v (placeFor "grade") 0)) (entriesFrom (phaseAt v) mostPhases 0) (listNumbers v (placeFor "dwell")) (entriesFrom (pointAt v) mostPoints 0)
+sheetOf v = sheetWith v (vehicleOf (getD v (placeFor "vehicle") 0)) (gradeOf (getD v (placeFor "grade") 0)) (gradeOf (getD v (placeFor "grade2") 0)) (entriesFrom (phaseAt v) mostPhases 0) (listNumbers v (placeFor "dwell")) (entriesFrom (pointAt v) mostPoints 0)

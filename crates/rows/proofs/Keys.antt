@@ -5,13 +5,14 @@ use mathlib.Core.List.{List, [], _∷_, _++_}
 use Prim.Native.Nat.{ℕ, zero, suc, _+_, _*_, _<_, _≤_}
 use native.Mathlib.Omega.{arith}
 use lib.Dec.{eqb, ltb, leb, leb→le}
-use lib.ListN.{length, getD, take, replicate}
+use lib.ListN.{length, getD, take, replicate, length-append}
+use lib.Seq.{length-take-le}
 use borrow.Author.Tests.{ltb-true, ltb-false, eqb-true}
 use Rattle.units.specs.Numbers.{pick}
 use Rattle.units.proofs.Steps.{split}
 use Rattle.units.proofs.Tested.{at}
 use Rattle.rows.specs.declared.table.Key.{Key}
-use Rattle.rows.specs.Table.{Kind, _to_, kinds, none, mostPhases, kindCount, rowCount, numberCount, numbersIn, placeFor, firstPhase, firstPoint, kindOf, keyOf, formOf, rangesOf}
+use Rattle.rows.specs.Table.{Kind, _to_, kinds, none, mostPhases, kindCount, rowCount, numberCount, numbersIn, placeFor, firstPhase, firstPoint, kindOf, keyOf, formOf, absentOf, rangesOf}
 use Rattle.rows.specs.Facts.{letters, factsOf, headOf}
 use Rattle.rows.proofs.Tables.{ruled, kind-few, kind-past, pastPhases, shift}
 
@@ -80,15 +81,16 @@ kindFacts k =
       2 = k .form;
       3 = getD (k .ranges) 0 (0 to 0) .least;
       4 = getD (k .ranges) 0 (0 to 0) .most;
+      5 = k .absent;
     }
 
 pub facts-at : (row at n : ℕ) {x : Key} → at ≡ headOf row → at ≡ n → x ≡ kindFacts (getD kinds (indexIn n heads) none) → x ≡ factsOf row
-unfolding factsOf keyOf formOf rangesOf
+unfolding factsOf keyOf formOf absentOf rangesOf
 facts-at row at n h e f =
     f ∙ ap (λ (k : ℕ). kindFacts (getD kinds k none)) (ap (λ (m : ℕ). indexIn m heads) (sym e ∙ h) ∙ sym (head-tells row))
 
 pub facts-past : (row at : ℕ) {x : Key} → at ≡ headOf row → Left (Unit {0}) at heads → x ≡ kindFacts none → x ≡ factsOf row
-unfolding factsOf keyOf formOf rangesOf
+unfolding factsOf keyOf formOf absentOf rangesOf
 facts-past row at h l f =
     f ∙ ap (λ (k : ℕ). kindFacts (getD kinds k none)) (sym (left-out (Unit {0}) at heads l) ∙ ap (λ (m : ℕ). indexIn m heads) h ∙ sym (head-tells row))
 
@@ -110,12 +112,21 @@ key-short row = leb→le (length (keyOf row)) 8 (at (λ (k : ℕ). leb (length (
 pub key-part : (row : ℕ) → take (length (keyOf row)) (letters (keyOf row)) ≡ keyOf row
 key-part row = part (keyOf row) (replicate 8 32) 8 (key-short row)
 
+letters-long : (row : ℕ) → length (letters (keyOf row)) ≡ 8
+letters-long row =
+    let long : 8 ≤ length (keyOf row ++ replicate 8 32) = rw (length-append (keyOf row) (replicate 8 32)) (omega arith) in
+    length-take-le 8 (keyOf row ++ replicate 8 32) long
+
 -- ---- what a caller takes from the row of a key
 
 module _ (row : ℕ) (k : Key) (e : k ≡ factsOf row) where
   pub facts-key : take (k .1) (k .0) ≡ keyOf row
   unfolding factsOf
   facts-key = ap (λ (x : Key). take (x .1) (x .0)) e ∙ key-part row
+
+  pub facts-letters : length (k .0) ≡ 8
+  unfolding factsOf
+  facts-letters = ap (λ (x : Key). length (x .0)) e ∙ letters-long row
 
   pub facts-short : k .1 ≤ 8
   unfolding factsOf
@@ -124,3 +135,7 @@ module _ (row : ℕ) (k : Key) (e : k ≡ factsOf row) where
   pub facts-form : k .2 ≡ formOf row
   unfolding factsOf
   facts-form = ap (λ (x : Key). x .2) e
+
+  pub facts-absent : k .5 ≡ absentOf row
+  unfolding factsOf
+  facts-absent = ap (λ (x : Key). x .5) e

@@ -34,23 +34,38 @@ signed = 2
 abbrev pub list : ℕ
 list = 3
 
--- a kind of line: its key, how its numbers are written, the range of each, and how many lines of it a sheet can have
+-- what a line stands for where an older form of the sheet has not got it: a line must stand, or it stands for the number of the line before it, or for none
+abbrev pub mustStand : ℕ
+mustStand = 0
+
+abbrev pub asBefore : ℕ
+asBefore = 1
+
+abbrev pub asNone : ℕ
+asNone = 2
+
+-- a kind of line: its key, how its numbers are written, the range of each, how many lines of it a sheet can have, and what it stands for where it may be
+-- absent
 pub record Kind : Type 0 where
   pub key : List ℕ
   pub form : ℕ
   pub ranges : List Range
   pub lines : ℕ
+  pub absent : ℕ
 
 abbrev pub kind : ℕ → S.String → List Range → Kind
-kind form key ranges = record { key = bytes key; form = form; ranges = ranges; lines = 1 }
+kind form key ranges = record { key = bytes key; form = form; ranges = ranges; lines = 1; absent = mustStand }
 
 -- "then that many `phase=` lines", "then that many `point=FEET,TENTHS` lines"
 abbrev pub upTo : ℕ → S.String → List Range → Kind
-upTo most key ranges = record { key = bytes key; form = plain; ranges = ranges; lines = most }
+upTo most key ranges = record { key = bytes key; form = plain; ranges = ranges; lines = most; absent = mustStand }
 
 -- a list of at most `most` numbers: first how many they are, then they
 abbrev pub listOf : ℕ → S.String → Range → Kind
-listOf most key range = record { key = bytes key; form = list; ranges = (0 to most) ∷ replicate most range; lines = 1 }
+listOf most key range = record { key = bytes key; form = list; ranges = (0 to most) ∷ replicate most range; lines = 1; absent = mustStand }
+
+abbrev pub ifAbsent : ℕ → Kind → Kind
+ifAbsent absent k = record { key = k .key; form = k .form; ranges = k .ranges; lines = k .lines; absent = absent }
 
 abbrev pub mostPhases : ℕ
 mostPhases = 8
@@ -64,6 +79,8 @@ kinds =
     kind plain "issue" ((1 to 65535) ∷ [])
     ∷ kind worded "vehicle" ((0 to 3) ∷ [])
     ∷ kind signed "grade" ((999920 to 1000080) ∷ [])
+    -- "Add `grade2` after `grade`, with the same range"; "a converter writes both grades equal"
+    ∷ ifAbsent asBefore (kind signed "grade2" ((999920 to 1000080) ∷ []))
     ∷ kind plain "l01" ((0 to 999) ∷ [])
     ∷ kind plain "l02" ((1 to 999) ∷ [])
     ∷ kind plain "phases" ((1 to mostPhases) ∷ [])
@@ -72,7 +89,7 @@ kinds =
     -- yellow, red
     ∷ kind plain "track" ((30 to 60) ∷ (0 to 60) ∷ [])
     -- "after `track`, `dwell=` with rising phase numbers and commas between, or 0 for none"
-    ∷ listOf mostPhases "dwell" (1 to 8)
+    ∷ ifAbsent asNone (listOf mostPhases "dwell" (1 to 8))
     ∷ kind plain "l18" ((0 to 400) ∷ [])
     ∷ kind plain "l19" ((1 to 400) ∷ [])
     ∷ kind plain "l20" ((1 to 150) ∷ [])
@@ -157,7 +174,7 @@ firstPoint = rowFor "point"
 
 -- no kind and no range, for what stands past the table
 abbrev pub none : Kind
-none = record { key = []; form = plain; ranges = []; lines = 0 }
+none = record { key = []; form = plain; ranges = []; lines = 0; absent = mustStand }
 
 unfoldable pub kindOf : ℕ → ℕ
 kindOf row = getD rows row kindCount
@@ -170,6 +187,9 @@ formOf row = getD kinds (kindOf row) none .form
 
 unfoldable pub rangesOf : ℕ → List Range
 rangesOf row = getD kinds (kindOf row) none .ranges
+
+unfoldable pub absentOf : ℕ → ℕ
+absentOf row = getD kinds (kindOf row) none .absent
 
 abbrev pub rangeOf : ℕ → ℕ → Range
 rangeOf row j = getD (rangesOf row) j (0 to 0)

@@ -2,8 +2,16 @@
 ghost use mathlib.Core.Path.{_≡_};
 ghost use Rattle.rows.specs.Facts.{headOf, factsOf};
 
-// A key: its letters with blanks after them, how many they are, how its numbers are written, and the least and the most of the first.
-pub struct Key(pub [u8; 8], pub usize, pub usize, pub u32, pub u32);
+// A key: its letters with blanks after them, how many they are, how its numbers are written, the least and the most of the first, and what its line stands
+// for where it may be absent.
+pub struct Key(
+    pub [u8; 8],
+    pub usize,
+    pub usize,
+    pub u32,
+    pub u32,
+    pub usize,
+);
 
 // How the numbers of a line are written.
 pub const PLAIN: usize = 0;
@@ -15,6 +23,13 @@ pub const SIGNED: usize = 2;
 // A list: first how many numbers it has, then they, plain.
 pub const LIST: usize = 3;
 
+// What a line stands for where an older form of the sheet has not got it: a line must stand, or it stands for the number of the line before it, or for none.
+pub const MUST_STAND: usize = 0;
+
+pub const AS_BEFORE: usize = 1;
+
+pub const AS_NONE: usize = 2;
+
 // How many phases and points a sheet has room for.
 pub const MOST_PHASES: usize = 8;
 
@@ -23,105 +38,109 @@ pub const MOST_POINTS: usize = 16;
 // Of each key, where its first number stands among the numbers of a sheet, past those of the key before it; and the key.
 pub const ISSUE: usize = 0;
 
-const ISSUE_KEY: Key = Key(*b"issue   ", 5, PLAIN, 1, 65535);
+const ISSUE_KEY: Key = Key(*b"issue   ", 5, PLAIN, 1, 65535, MUST_STAND);
 
 pub const VEHICLE: usize = ISSUE + 1;
 
-const VEHICLE_KEY: Key = Key(*b"vehicle ", 7, WORDED, 0, 3);
+const VEHICLE_KEY: Key = Key(*b"vehicle ", 7, WORDED, 0, 3, MUST_STAND);
 
 pub const GRADE: usize = VEHICLE + 1;
 
-const GRADE_KEY: Key = Key(*b"grade   ", 5, SIGNED, 999920, 1000080);
+const GRADE_KEY: Key = Key(*b"grade   ", 5, SIGNED, 999920, 1000080, MUST_STAND);
 
-pub const L01: usize = GRADE + 1;
+pub const GRADE2: usize = GRADE + 1;
 
-const L01_KEY: Key = Key(*b"l01     ", 3, PLAIN, 0, 999);
+const GRADE2_KEY: Key = Key(*b"grade2  ", 6, SIGNED, 999920, 1000080, AS_BEFORE);
+
+pub const L01: usize = GRADE2 + 1;
+
+const L01_KEY: Key = Key(*b"l01     ", 3, PLAIN, 0, 999, MUST_STAND);
 
 pub const L02: usize = L01 + 1;
 
-const L02_KEY: Key = Key(*b"l02     ", 3, PLAIN, 1, 999);
+const L02_KEY: Key = Key(*b"l02     ", 3, PLAIN, 1, 999, MUST_STAND);
 
 pub const PHASES: usize = L02 + 1;
 
-const PHASES_KEY: Key = Key(*b"phases  ", 6, PLAIN, 1, 8);
+const PHASES_KEY: Key = Key(*b"phases  ", 6, PLAIN, 1, 8, MUST_STAND);
 
 pub const PHASE: usize = PHASES + 1;
 
-const PHASE_KEY: Key = Key(*b"phase   ", 5, PLAIN, 1, 8);
+const PHASE_KEY: Key = Key(*b"phase   ", 5, PLAIN, 1, 8, MUST_STAND);
 
 pub const TRACK: usize = PHASE + 8 * MOST_PHASES;
 
-const TRACK_KEY: Key = Key(*b"track   ", 5, PLAIN, 30, 60);
+const TRACK_KEY: Key = Key(*b"track   ", 5, PLAIN, 30, 60, MUST_STAND);
 
 pub const TRACK_RED: usize = TRACK + 1;
 
 pub const DWELL: usize = TRACK_RED + 1;
 
-const DWELL_KEY: Key = Key(*b"dwell   ", 5, LIST, 0, 8);
+const DWELL_KEY: Key = Key(*b"dwell   ", 5, LIST, 0, 8, AS_NONE);
 
 pub const L18: usize = DWELL + 1 + MOST_PHASES;
 
-const L18_KEY: Key = Key(*b"l18     ", 3, PLAIN, 0, 400);
+const L18_KEY: Key = Key(*b"l18     ", 3, PLAIN, 0, 400, MUST_STAND);
 
 pub const L19: usize = L18 + 1;
 
-const L19_KEY: Key = Key(*b"l19     ", 3, PLAIN, 1, 400);
+const L19_KEY: Key = Key(*b"l19     ", 3, PLAIN, 1, 400, MUST_STAND);
 
 pub const L20: usize = L19 + 1;
 
-const L20_KEY: Key = Key(*b"l20     ", 3, PLAIN, 1, 150);
+const L20_KEY: Key = Key(*b"l20     ", 3, PLAIN, 1, 150, MUST_STAND);
 
 pub const L28: usize = L20 + 1;
 
-const L28_KEY: Key = Key(*b"l28     ", 3, PLAIN, 0, 999);
+const L28_KEY: Key = Key(*b"l28     ", 3, PLAIN, 0, 999, MUST_STAND);
 
 pub const L30: usize = L28 + 1;
 
-const L30_KEY: Key = Key(*b"l30     ", 3, PLAIN, 200, 999);
+const L30_KEY: Key = Key(*b"l30     ", 3, PLAIN, 200, 999, MUST_STAND);
 
 pub const L31: usize = L30 + 1;
 
-const L31_KEY: Key = Key(*b"l31     ", 3, PLAIN, 0, 999);
+const L31_KEY: Key = Key(*b"l31     ", 3, PLAIN, 0, 999, MUST_STAND);
 
 pub const L33: usize = L31 + 1;
 
-const L33_KEY: Key = Key(*b"l33     ", 3, PLAIN, 0, 999);
+const L33_KEY: Key = Key(*b"l33     ", 3, PLAIN, 0, 999, MUST_STAND);
 
 pub const L37: usize = L33 + 1;
 
-const L37_KEY: Key = Key(*b"l37     ", 3, PLAIN, 100, 999);
+const L37_KEY: Key = Key(*b"l37     ", 3, PLAIN, 100, 999, MUST_STAND);
 
 pub const L39: usize = L37 + 1;
 
-const L39_KEY: Key = Key(*b"l39     ", 3, PLAIN, 0, 999);
+const L39_KEY: Key = Key(*b"l39     ", 3, PLAIN, 0, 999, MUST_STAND);
 
 pub const L47: usize = L39 + 1;
 
-const L47_KEY: Key = Key(*b"l47     ", 3, PLAIN, 0, 400);
+const L47_KEY: Key = Key(*b"l47     ", 3, PLAIN, 0, 400, MUST_STAND);
 
 pub const L56: usize = L47 + 1;
 
-const L56_KEY: Key = Key(*b"l56     ", 3, PLAIN, 30, 999);
+const L56_KEY: Key = Key(*b"l56     ", 3, PLAIN, 30, 999, MUST_STAND);
 
 pub const L57: usize = L56 + 1;
 
-const L57_KEY: Key = Key(*b"l57     ", 3, PLAIN, 1, 999);
+const L57_KEY: Key = Key(*b"l57     ", 3, PLAIN, 1, 999, MUST_STAND);
 
 pub const L58: usize = L57 + 1;
 
-const L58_KEY: Key = Key(*b"l58     ", 3, PLAIN, 0, 100);
+const L58_KEY: Key = Key(*b"l58     ", 3, PLAIN, 0, 100, MUST_STAND);
 
 pub const POINTS: usize = L58 + 1;
 
-const POINTS_KEY: Key = Key(*b"points  ", 6, PLAIN, 2, 16);
+const POINTS_KEY: Key = Key(*b"points  ", 6, PLAIN, 2, 16, MUST_STAND);
 
 pub const POINT: usize = POINTS + 1;
 
-const POINT_KEY: Key = Key(*b"point   ", 5, PLAIN, 0, 400);
+const POINT_KEY: Key = Key(*b"point   ", 5, PLAIN, 0, 400, MUST_STAND);
 
 pub const NUMBERS: usize = POINT + 2 * MOST_POINTS;
 
-const NO_KEY: Key = Key(*b"        ", 0, PLAIN, 0, 0);
+const NO_KEY: Key = Key(*b"        ", 0, PLAIN, 0, 0, MUST_STAND);
 
 // The rows: as many of `phase` and of `point` as there is room for, one of each other key. Those before `phase`, and those from `l18` to `points`, have
 // one number each; the list for dwell has its count and eight.
@@ -181,6 +200,7 @@ pub fn facts(row: usize) -> Key
         ISSUE => return ISSUE_KEY,
         VEHICLE => return VEHICLE_KEY,
         GRADE => return GRADE_KEY,
+        GRADE2 => return GRADE2_KEY,
         L01 => return L01_KEY,
         L02 => return L02_KEY,
         PHASES => return PHASES_KEY,

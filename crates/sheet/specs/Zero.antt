@@ -20,6 +20,7 @@ zeroSheet =
       issue = 0;
       vehicle = Car;
       grade = pos 0;
+      grade2 = pos 0;
       l01 = 0;
       l02 = 0;
       «phase_count» = 0;

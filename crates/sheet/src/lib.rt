@@ -29,6 +29,7 @@ pub struct Sheet {
     pub issue: u32,
     pub vehicle: Vehicle,
     pub grade: i16,
+    pub grade2: i16,
     pub l01: u32,
     pub l02: u32,
     pub phase_count: u32,

@@ -92,6 +92,7 @@ pub fn flat(s: Sheet) -> [u32; NUMBERS]
     v[table::ISSUE] = s.issue;
     v[table::VEHICLE] = vehicle_number(vehicle);
     v[table::GRADE] = graded::grade_number(s.grade);
+    v[table::GRADE2] = graded::grade_number(s.grade2);
     v[table::L01] = s.l01;
     v[table::L02] = s.l02;
     v[table::PHASES] = s.phase_count;

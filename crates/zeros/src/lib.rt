@@ -41,6 +41,7 @@ pub fn zero_sheet() -> Sheet
         issue: 0,
         vehicle: vehicle,
         grade: 0,
+        grade2: 0,
         l01: 0,
         l02: 0,
         phase_count: 0,

@@ -23,6 +23,12 @@ element-copy-out-grade-of c = search needs
 grade-of-requires : tie.Need-grade-of-requires
 grade-of-requires c κs = search needs
 
+element-copy-out-grade-of-2 : tie.Need-element-copy-out-grade-of-2
+element-copy-out-grade-of-2 c = search needs
+
+grade-of-requires-2 : tie.Need-grade-of-requires-2
+grade-of-requires-2 c κs = search needs
+
 phases-of-requires : tie.Need-phases-of-requires
 phases-of-requires c κs = search needs
 
@@ -37,10 +43,11 @@ sheet-with-requires c κs = search needs
 
 returns : tie.Need-returns
 returns c =
-    let v = c .before .before .before .before .before .before .before .before .args .numbers .now in
-    let g : toZ w16 (ofZ w16 (c .before .before .before .before .grade-of .result)) ≡ gradeOf (getD v (placeFor "grade") 0) = toZ-ofZ {w = w16} {z = c .before .before .before .before .grade-of .result} (record { sfits = c .before .before .before .before .grade-of .ok }) ∙ c .before .before .before .before .grade-of .ensures in
+    let v = c .before .before .before .before .before .before .before .before .before .before .args .numbers .now in
+    let g : toZ w16 (ofZ w16 (c .before .before .before .before .before .before .grade-of .result)) ≡ gradeOf (getD v (placeFor "grade") 0) = toZ-ofZ {w = w16} {z = c .before .before .before .before .before .before .grade-of .result} (record { sfits = c .before .before .before .before .before .before .grade-of .ok }) ∙ c .before .before .before .before .before .before .grade-of .ensures in
+    let h : toZ w16 (ofZ w16 (c .before .before .before .before .grade-of2 .result)) ≡ gradeOf (getD v (placeFor "grade2") 0) = toZ-ofZ {w = w16} {z = c .before .before .before .before .grade-of2 .result} (record { sfits = c .before .before .before .before .grade-of2 .ok }) ∙ c .before .before .before .before .grade-of2 .ensures in
     let d : c .before .before .list-at .result ≡ listNumbers v (placeFor "dwell") = c .before .before .list-at .ensures ∙ ap (listNumbers v) dwell-place in
-    c .sheet-with .ensures ∙ λ i. sheetWith v (c .before .before .before .before .before .before .vehicle-of .ensures i) (g i) (c .before .before .before .phases-of .ensures i) (d i) (c .before .points-of .ensures i)
+    c .sheet-with .ensures ∙ λ i. sheetWith v (c .before .before .before .before .before .before .before .before .vehicle-of .ensures i) (g i) (h i) (c .before .before .before .phases-of .ensures i) (d i) (c .before .points-of .ensures i)
 
 pub sheet-of-spec : {M : Type 1} → statement M
 sheet-of-spec =
@@ -50,6 +57,8 @@ sheet-of-spec =
     vehicle-of-requires
     element-copy-out-grade-of
     grade-of-requires
+    element-copy-out-grade-of-2
+    grade-of-requires-2
     phases-of-requires
     list-at-requires
     points-of-requires

@@ -1,4 +1,4 @@
--- `from_numbers::sheet_with` meets its contract: number by number, and the grade is what it was before it was kept in 16 bits. Assumes nothing.
+-- `from_numbers::sheet_with` meets its contract: number by number, and the grades are what they were before they were kept in 16 bits. Assumes nothing.
 use mathlib.Core.Path.{refl}
 use mir.Syntax.{w16}
 use mir.Facts.{toZ-ofZ}
@@ -6,96 +6,97 @@ use borrow.Author.Needs.{needs}
 use Rattle.from_numbers.proofs.sheet_with.Statement.{statement}
 use Rattle.from_numbers.proofs.sheet_with.Tie as tie
 
-element-copy-out-t9 : tie.Need-element-copy-out-t9
-element-copy-out-t9 c = search needs
+element-copy-out-t10 : tie.Need-element-copy-out-t10
+element-copy-out-t10 c = search needs
 
-element-copy-out-t12 : tie.Need-element-copy-out-t12
-element-copy-out-t12 c = search needs
+element-copy-out-t13 : tie.Need-element-copy-out-t13
+element-copy-out-t13 c = search needs
 
-element-copy-out-t15 : tie.Need-element-copy-out-t15
-element-copy-out-t15 c = search needs
+element-copy-out-t16 : tie.Need-element-copy-out-t16
+element-copy-out-t16 c = search needs
 
-element-copy-out-t18 : tie.Need-element-copy-out-t18
-element-copy-out-t18 c = search needs
+element-copy-out-t19 : tie.Need-element-copy-out-t19
+element-copy-out-t19 c = search needs
 
-element-copy-out-t21 : tie.Need-element-copy-out-t21
-element-copy-out-t21 c = search needs
+element-copy-out-t22 : tie.Need-element-copy-out-t22
+element-copy-out-t22 c = search needs
 
-element-copy-out-t24 : tie.Need-element-copy-out-t24
-element-copy-out-t24 c = search needs
+element-copy-out-t25 : tie.Need-element-copy-out-t25
+element-copy-out-t25 c = search needs
 
-element-copy-out-t27 : tie.Need-element-copy-out-t27
-element-copy-out-t27 c = search needs
+element-copy-out-t28 : tie.Need-element-copy-out-t28
+element-copy-out-t28 c = search needs
 
-element-copy-out-t30 : tie.Need-element-copy-out-t30
-element-copy-out-t30 c = search needs
+element-copy-out-t31 : tie.Need-element-copy-out-t31
+element-copy-out-t31 c = search needs
 
-element-copy-out-t33 : tie.Need-element-copy-out-t33
-element-copy-out-t33 c = search needs
+element-copy-out-t34 : tie.Need-element-copy-out-t34
+element-copy-out-t34 c = search needs
 
-element-copy-out-t36 : tie.Need-element-copy-out-t36
-element-copy-out-t36 c = search needs
+element-copy-out-t37 : tie.Need-element-copy-out-t37
+element-copy-out-t37 c = search needs
 
-element-copy-out-t39 : tie.Need-element-copy-out-t39
-element-copy-out-t39 c = search needs
+element-copy-out-t40 : tie.Need-element-copy-out-t40
+element-copy-out-t40 c = search needs
 
-element-copy-out-t42 : tie.Need-element-copy-out-t42
-element-copy-out-t42 c = search needs
+element-copy-out-t43 : tie.Need-element-copy-out-t43
+element-copy-out-t43 c = search needs
 
-element-copy-out-t45 : tie.Need-element-copy-out-t45
-element-copy-out-t45 c = search needs
+element-copy-out-t46 : tie.Need-element-copy-out-t46
+element-copy-out-t46 c = search needs
 
-element-copy-out-t48 : tie.Need-element-copy-out-t48
-element-copy-out-t48 c = search needs
+element-copy-out-t49 : tie.Need-element-copy-out-t49
+element-copy-out-t49 c = search needs
 
-element-copy-out-t51 : tie.Need-element-copy-out-t51
-element-copy-out-t51 c = search needs
+element-copy-out-t52 : tie.Need-element-copy-out-t52
+element-copy-out-t52 c = search needs
 
-element-copy-out-t54 : tie.Need-element-copy-out-t54
-element-copy-out-t54 c = search needs
+element-copy-out-t55 : tie.Need-element-copy-out-t55
+element-copy-out-t55 c = search needs
 
-element-copy-out-t57 : tie.Need-element-copy-out-t57
-element-copy-out-t57 c = search needs
+element-copy-out-t58 : tie.Need-element-copy-out-t58
+element-copy-out-t58 c = search needs
 
-element-copy-out-t60 : tie.Need-element-copy-out-t60
-element-copy-out-t60 c = search needs
+element-copy-out-t61 : tie.Need-element-copy-out-t61
+element-copy-out-t61 c = search needs
 
-element-copy-out-t63 : tie.Need-element-copy-out-t63
-element-copy-out-t63 c = search needs
+element-copy-out-t64 : tie.Need-element-copy-out-t64
+element-copy-out-t64 c = search needs
 
-element-copy-out-t66 : tie.Need-element-copy-out-t66
-element-copy-out-t66 c = search needs
+element-copy-out-t67 : tie.Need-element-copy-out-t67
+element-copy-out-t67 c = search needs
 
-element-copy-out-t69 : tie.Need-element-copy-out-t69
-element-copy-out-t69 c = search needs
+element-copy-out-t70 : tie.Need-element-copy-out-t70
+element-copy-out-t70 c = search needs
 
 returns : tie.Need-returns
 returns c =
-    rw (toZ-ofZ {w = w16} (c .before .before .before .before .before .before .before .before .before .before .before .before .before .before .before .before .before .before .before .before .before .fits .grade)) refl
+    let f = c .before .before .before .before .before .before .before .before .before .before .before .before .before .before .before .before .before .before .before .before .before .fits in
+    rw (toZ-ofZ {w = w16} (f .grade), toZ-ofZ {w = w16} (f .grade2)) refl
 
 pub sheet-with-spec : {M : Type 1} → statement M
 sheet-with-spec =
     tie.close
     (tie.spec
-    element-copy-out-t9
-    element-copy-out-t12
-    element-copy-out-t15
-    element-copy-out-t18
-    element-copy-out-t21
-    element-copy-out-t24
-    element-copy-out-t27
-    element-copy-out-t30
-    element-copy-out-t33
-    element-copy-out-t36
-    element-copy-out-t39
-    element-copy-out-t42
-    element-copy-out-t45
-    element-copy-out-t48
-    element-copy-out-t51
-    element-copy-out-t54
-    element-copy-out-t57
-    element-copy-out-t60
-    element-copy-out-t63
-    element-copy-out-t66
-    element-copy-out-t69
+    element-copy-out-t10
+    element-copy-out-t13
+    element-copy-out-t16
+    element-copy-out-t19
+    element-copy-out-t22
+    element-copy-out-t25
+    element-copy-out-t28
+    element-copy-out-t31
+    element-copy-out-t34
+    element-copy-out-t37
+    element-copy-out-t40
+    element-copy-out-t43
+    element-copy-out-t46
+    element-copy-out-t49
+    element-copy-out-t52
+    element-copy-out-t55
+    element-copy-out-t58
+    element-copy-out-t61
+    element-copy-out-t64
+    element-copy-out-t67
+    element-copy-out-t70
     returns)

@@ -24,6 +24,9 @@ grade-number-requires c κs = search needs
 array-write-v-3 : tie.Need-array-write-v-3
 array-write-v-3 c = search needs
 
+grade-number-requires-2 : tie.Need-grade-number-requires-2
+grade-number-requires-2 c κs = search needs
+
 array-write-v-4 : tie.Need-array-write-v-4
 array-write-v-4 c = search needs
 
@@ -84,6 +87,9 @@ array-write-v-22 c = search needs
 array-write-v-23 : tie.Need-array-write-v-23
 array-write-v-23 c = search needs
 
+array-write-v-24 : tie.Need-array-write-v-24
+array-write-v-24 c = search needs
+
 with-phases-requires : tie.Need-with-phases-requires
 with-phases-requires c κs = search needs
 
@@ -95,8 +101,10 @@ with-points-requires c κs = search needs
 
 returns : tie.Need-returns
 returns c =
-    let f : SFits w16 (c .before .before .before .before .before .before .before .before .before .before .before .before .args .s .grade) = search needs in
-    stored (c .before .before .before .before .before .before .before .before .before .before .before .before .args .s) _ _ _ _ _ (c .before .before .before .before .before .before .before .before .vehicle-number .ensures) (c .before .before .before .before .before .before .grade-number .ensures ∙ ap gradeNumber (toZ-ofZ f)) (c .before .before .before .before .with-phases .ensures) (c .before .before .with-dwell .ensures) (c .with-points .ensures)
+    let s = c .before .before .before .before .before .before .before .before .before .before .before .before .before .before .args .s in
+    let f : SFits w16 (s .grade) = search needs in
+    let g : SFits w16 (s .grade2) = search needs in
+    stored s _ _ _ _ _ _ (c .before .before .before .before .before .before .before .before .before .before .vehicle-number .ensures) (c .before .before .before .before .before .before .before .before .grade-number .ensures ∙ ap gradeNumber (toZ-ofZ f)) (c .before .before .before .before .before .before .grade-number2 .ensures ∙ ap gradeNumber (toZ-ofZ g)) (c .before .before .before .before .with-phases .ensures) (c .before .before .with-dwell .ensures) (c .with-points .ensures)
 
 pub flat-spec : {M : Type 1} → statement M
 flat-spec =
@@ -107,6 +115,7 @@ flat-spec =
     array-write-v-2
     grade-number-requires
     array-write-v-3
+    grade-number-requires-2
     array-write-v-4
     array-write-v-5
     array-write-v-6
@@ -127,6 +136,7 @@ flat-spec =
     array-write-v-21
     array-write-v-22
     array-write-v-23
+    array-write-v-24
     with-phases-requires
     with-dwell-requires
     with-points-requires

@@ -106,6 +106,10 @@ returns-24 c =
 
 returns-25 : tie.Need-returns-25
 returns-25 c =
+    facts-at (c .before .before .args .row) _ _ (c .before .head .ensures) (c .match .keys25) refl
+
+returns-26 : tie.Need-returns-26
+returns-26 c =
     facts-past (c .before .before .args .row) _ (c .before .head .ensures) (c .match .rest) refl
 
 pub facts-spec : {M : Type 1} → statement M
@@ -137,4 +141,5 @@ facts-spec =
     returns-22
     returns-23
     returns-24
-    returns-25)
+    returns-25
+    returns-26)
