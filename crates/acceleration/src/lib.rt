@@ -50,7 +50,7 @@ fn graded(factor: Fraction, time: Tenths) -> Tenths
     Tenths(units::div_up(time.0 * factor.over, factor.under))
 }
 
-// The time to accelerate over a distance, on the sheet's one grade.
+// The time to accelerate over a distance, on a grade.
 pub fn acceleration(
     points: [Point; 16],
     count: u32,

@@ -1,4 +1,4 @@
--- Acceleration times, in the paper's words and order: "24, 49 and 54 are acceleration times over 23, 48 and 20." Which line is over which distance stands with the lines.
+-- Acceleration times, in the paper's words and order: "24, 49 and 54 are acceleration times over 23, 48 and 20." Which line is over which distance, and on which grade, stands with the lines.
 use Prim.Native.Nat.{_+_, _-_, _*_}
 use mathlib.Core.List.{List, [], _∷_}
 use lib.Dec.{leb}
@@ -28,7 +28,6 @@ levelOf (p ∷ ps) d = levelFrom p ps d
 unfoldable pub gradedOf : Fraction → Tenths → Tenths
 gradedOf f t = tenths (up (t .0 * f .over) (f .under))
 
--- the acceleration time over a distance: the level time, by the points; then the factor, by vehicle, grade and distance.
--- "The one grade entered serves all three."
+-- the acceleration time over a distance: the level time, by the points; then the factor, by vehicle, grade and distance
 unfoldable pub accelerationOf : List Point → Vehicle → ℤ → Feet → Tenths
 accelerationOf ps v g d = gradedOf (factorOf v g d) (levelOf ps d)

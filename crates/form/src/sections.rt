@@ -95,7 +95,7 @@ pub(crate) fn clearance_lines(s: Sheet) -> Clearance
     let l21 = sums::along(l18, l19);
     let l22 = ruled::line22(l21);
     let l23 = sums::along(l19, l20);
-    let l24 = sums::acceleration(s, l23);
+    let l24 = sums::acceleration(s, s.grade, l23);
     let l25 = sums::plus(l22, l24);
     Clearance {
         l18: l18,
@@ -161,7 +161,7 @@ pub(crate) fn green_lines(s: Sheet, m22: Tenths, m23: Feet, m25: Tenths, m44: Te
 {
     let l47 = sums::distance(s.l47);
     let l48 = sums::along(m23, l47);
-    let l49 = sums::acceleration(s, l48);
+    let l49 = sums::acceleration(s, s.grade2, l48);
     let l50 = sums::plus(m22, l49);
     let l51 = ruled::line51(sums::number(m44), sums::number(l50), sums::number(m25));
     Green {
@@ -177,7 +177,7 @@ pub(crate) fn street_lines(s: Sheet, m17: Tenths, m20: Feet, m22: Tenths) -> Str
     requires { ⌜ (acceptOf s ≡ Fine) × (m17 ≡ l17 s) × (m20 ≡ l20 s) × (m22 ≡ l22 s) ⌝ }
     ensures { λ r. ⌜ r ≡ streetLines s ⌝ }
 {
-    let l54 = sums::acceleration(s, m20);
+    let l54 = sums::acceleration(s, s.grade, m20);
     let l55 = sums::plus(sums::plus(m17, m22), l54);
     let l56 = sums::time(s.l56);
     let l57 = sums::time(s.l57);

@@ -54,11 +54,11 @@ pub(crate) fn number(t: Tenths) -> u32
     t.0 as u32
 }
 
-// The time to accelerate over a distance, by the sheet's points, vehicle and grade.
-pub(crate) fn acceleration(s: Sheet, d: Feet) -> Tenths
-    ensures { λ r. ⌜ r ≡ acceleration s d ⌝ }
+// The time to accelerate over a distance on a grade, by the sheet's points and vehicle.
+pub(crate) fn acceleration(s: Sheet, grade: i16, d: Feet) -> Tenths
+    ensures { λ r. ⌜ r ≡ acceleration s grade d ⌝ }
 {
     let points = s.points;
     let vehicle = s.vehicle;
-    acceleration::acceleration(points, s.point_count, vehicle, s.grade, d)
+    acceleration::acceleration(points, s.point_count, vehicle, grade, d)
 }

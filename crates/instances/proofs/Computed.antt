@@ -42,7 +42,7 @@ use Rattle.flow.specs.Tick.{heard, ticked}
 use Rattle.unit.specs.Runs.{Event, tick}
 use Rattle.measured.specs.Measured.{lengthsOf, accepted}
 use Rattle.promises.specs.Demand.{upTo}
-use Rattle.instances.specs.Instances.{calls, towardsFour, naming, tight, advanced, sideStreets, asItGoesOff, ticksBack, stepped, ownLengths, clearsBy, phasesOf, asYellowStarts}
+use Rattle.instances.specs.Instances.{calls, towardsFour, naming, tight, advanced, levelled, sideStreets, asItGoesOff, ticksBack, stepped, ownLengths, clearsBy, phasesOf, asYellowStarts}
 
 -- what the sequence goes by on the paper's sheet, with line 51 left open
 abbrev pub going : ℕ → Lengths
@@ -57,6 +57,10 @@ tightly = going 480
 -- of the two sheets of the gate and the trailer
 abbrev pub longer : Lengths
 longer = going 520
+
+-- of the sheet that levels out past the rails
+abbrev pub steeply : Lengths
+steeply = going 300
 
 -- a sheet that is accepted and goes by these
 pub record Goes (s : Sheet) (t : Lengths) : Type 0 where
@@ -87,10 +91,12 @@ pub record Worked : Type 0 where
   pub hit-l54 : worksheetOf (advanced 296) .lines .l54 .0 ≡ 77
   pub hit-l60 : worksheetOf (advanced 296) .lines .l60 .0 ≡ 78
   pub hit-l61 : worksheetOf (advanced 296) .lines .l61 .0 ≡ 297
+  pub levelled-goes : Goes levelled steeply
+  pub levelled-l25 : worksheetOf levelled .lines .l25 .0 ≡ 292
   pub side-goes : Goes sideStreets paper
   pub side-l16 : worksheetOf sideStreets .lines .l16 .0 ≡ ticksBack
   pub six-beside : acceptOf (clearsBy 55) ≡ Fine
-  pub six-refused : acceptOf (clearsBy 54) ≡ Refused ClearanceTooShort 8
+  pub six-refused : acceptOf (clearsBy 54) ≡ Refused ClearanceTooShort 9
   pub six-l17 : l17 (clearsBy 54) .0 ≡ 126
   pub six-lengths : ownLengths (clearsBy 54) ≡ paper
   pub ten-beside : acceptOf (phasesOf 10) ≡ Fine
@@ -125,6 +131,8 @@ worked =
       hit-l54 = refl;
       hit-l60 = refl;
       hit-l61 = refl;
+      levelled-goes = record { fine = refl; lengths = refl };
+      levelled-l25 = refl;
       side-goes = record { fine = refl; lengths = refl };
       side-l16 = refl;
       six-beside = refl;
@@ -165,6 +173,10 @@ pub record Walked : Type 0 where
   pub tight-four : Four tight tightly
   pub spared-four : Four (advanced 297) longer
   pub hit-four : Four (advanced 296) longer
+  pub levelled-1 : shown steeply levelled [] (upTo 1 (calls 302)) ≡ TrackGreen
+  pub levelled-2 : shown steeply levelled [] (upTo 2 (calls 302)) ≡ ClearanceGreen 0
+  pub levelled-301 : shown steeply levelled [] (upTo 301 (calls 302)) ≡ ClearanceGreen 299
+  pub levelled-302 : shown steeply levelled [] (upTo 302 (calls 302)) ≡ TrackYellow Train ToDwell 0
   pub side-552 : before paper sideStreets (calls 552) ≡ now AllRed 2
   pub side-1 : stepped paper sideStreets (now AllRed 2) (upTo 1 asItGoesOff) .stage ≡ Ending Train 4 ToTrack (Green 0) (Walk 0)
   pub side-last : stepped paper sideStreets (now AllRed 2) (upTo ticksBack asItGoesOff) .stage ≡ Ending Train 4 ToTrack (Red 19) (Clearance 100)
@@ -192,6 +204,10 @@ walked =
       tight-four = record { at-226 = refl; at-227 = refl; normal = refl };
       spared-four = record { at-226 = refl; at-227 = refl; normal = refl };
       hit-four = record { at-226 = refl; at-227 = refl; normal = refl };
+      levelled-1 = refl;
+      levelled-2 = refl;
+      levelled-301 = refl;
+      levelled-302 = refl;
       side-552 = refl;
       side-1 = refl;
       side-last = refl;

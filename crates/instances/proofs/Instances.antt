@@ -36,9 +36,9 @@ use Rattle.unit.specs.Unit.{nowOf, holding, fits, fresh, restarted, startOf}
 use Rattle.unit.proofs.Fit.{fresh-fits, onward, tick-is, onward-fits}
 use Rattle.unit.proofs.Kept.{fits-kept}
 use Rattle.promises.specs.Demand.{line, line17, line51, line53, seenOn, MayBegin, CallOn, ticksIn, upTo, atEnd, Demanded}
-use Rattle.instances.specs.Instances.{calls, towardsFour, atTrack, beforeFour, MayBeginAt, StartsWith, MetInTrackGreen, MetInPhaseFour, tight, EndsAtForty, StartsAtSeventeen, advanced, JustSpared, JustHit, sideStreets, asItGoesOff, ticksBack, LeftAtSixteen, goesOff, MustStayOn, MustBegin, NotInTransfer, stepped, ownLengths, steppedAt, clearsBy, WithoutSix, phasesOf, asYellowStarts, WithoutTen}
+use Rattle.instances.specs.Instances.{calls, towardsFour, atTrack, beforeFour, MayBeginAt, StartsWith, MetInTrackGreen, MetInPhaseFour, tight, EndsAtForty, StartsAtSeventeen, advanced, JustSpared, JustHit, levelled, DecidedByTwentyFive, sideStreets, asItGoesOff, ticksBack, LeftAtSixteen, goesOff, MustStayOn, MustBegin, NotInTransfer, stepped, ownLengths, steppedAt, clearsBy, WithoutSix, phasesOf, asYellowStarts, WithoutTen}
 use Rattle.promises.proofs.Between.{Dark, dark}
-use Rattle.instances.proofs.Computed.{paper, tightly, longer, Goes, worked, before, shown, Four, walked}
+use Rattle.instances.proofs.Computed.{paper, tightly, longer, steeply, Goes, worked, before, shown, Four, walked}
 use Rattle.promises.proofs.Demand.{demand-3}
 
 -- ---- a run of ticks alone goes by what the sheet gives
@@ -229,6 +229,20 @@ just-hit =
       at-227 (advanced 296) longer w f (omega arith) _ l17,
       omega arith,
       λ spared. omega (arith, spared 296 374 375 (omega arith) (omega arith) (omega arith)),
+    )
+
+-- ---- line 25 decides line 51
+pub decided-by-twenty-five : DecidedByTwentyFive
+decided-by-twenty-five =
+    let w = worked .levelled-goes in
+    let line = line-is levelled steeply w [] tt in
+    let at = met-stage levelled steeply w [] tt (calls 302) in (
+      begins-at-track levelled steeply w,
+      line (λ l. l .l25) 292 (worked .levelled-l25),
+      line (λ l. l .l51) 300 (ap (λ (t : Lengths). t .l51) (w .lengths)),
+      at 301 (ClearanceGreen 299) tt (walked .levelled-301),
+      at 302 (TrackYellow Train ToDwell 0) tt (walked .levelled-302),
+      at-two levelled steeply w 301 (omega arith) (omega arith) tt tt (walked .levelled-1) (walked .levelled-2),
     )
 
 -- ---- what the words keep out

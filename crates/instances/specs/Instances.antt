@@ -1,10 +1,11 @@
 -- The definitions of Demand.antt, run: the paper's two examples, a sheet on which every bound of demand 3 is met with equality, two on which the
--- trailer is just spared and just hit, one on which dwell is left line 16 after the call went off, and two that refusals 6 and 10 keep out, on which
--- the green would come after line 17.
+-- trailer is just spared and just hit, one on which line 25 decides line 51, one on which dwell is left line 16 after the call went off, and two that
+-- refusals 6 and 10 keep out, on which the green would come after line 17.
 use Prim.Native.Nat.{ℕ, _+_, _≤_}
 use mathlib.Core.Bool.{true, false}
 use mathlib.Core.List.{List, [], _∷_, _++_}
 use mathlib.Core.Path.{_≡_}
+use lib.IntN.{pos}
 use lib.ListN.{replicate}
 use Rattle.sheet.specs.declared.Answer.the-variants.{Fine, Refused}
 use Rattle.sheet.specs.declared.Phase.{Phase}
@@ -13,7 +14,7 @@ use Rattle.sheet.specs.declared.Sheet.{Sheet}
 use Rattle.sheet.specs.Zero.{zeroPhase}
 use Rattle.faults.specs.Whole.{acceptOf}
 use Rattle.rules.specs.Rules.{ticks}
-use Rattle.lines.specs.Cases.{paperSheet}
+use Rattle.lines.specs.Cases.{paperSheet, uphill}
 use Rattle.lines.specs.Lines.{l03, l17, l51}
 use Rattle.phase.specs.declared.Light.the-variants.{Green, Red}
 use Rattle.phase.specs.declared.Walker.the-variants.{Walk, Clearance}
@@ -84,6 +85,7 @@ naming count dwell first second l33 l39 =
       issue = paperSheet .issue;
       vehicle = paperSheet .vehicle;
       grade = paperSheet .grade;
+      grade2 = paperSheet .grade2;
       l01 = paperSheet .l01;
       l02 = paperSheet .l02;
       «phase_count» = 2;
@@ -147,6 +149,18 @@ JustHit =
     MayBeginAt (advanced 296) towardsFour × StartsWith u (calls 227) (line17 u) × (line61 u ≡ line36 u + 1)
     × (((lights gate gone : ℕ) → line36 u ≤ lights → lights + line60 u ≤ gate → gone ≤ line17 u + line53 u + line54 u → gone ≤ gate) → ⊥)
 
+-- ---- request 2026-02, "Line 25 can now decide line 51, and demand 3 must still hold": 8 percent up to the rails, and level past them
+abbrev pub levelled : Sheet
+levelled = uphill (pos 0) 0
+
+-- met in track green it shows green at tick 2 and ends it at tick 302, eight ticks after a vehicle that took line 25
+abbrev pub DecidedByTwentyFive : Type 0
+DecidedByTwentyFive =
+    MayBeginAt levelled [] × (line25 (atTrack levelled) ≡ 292) × (line51 (atTrack levelled) ≡ 300)
+    × (atEnd (atTrack levelled) (calls 302) 301 .stage ≡ ClearanceGreen 299)
+    × (atEnd (atTrack levelled) (calls 302) 302 .stage ≡ TrackYellow Train ToDwell 0)
+    × StartsWith (atTrack levelled) (calls 302) 2
+
 -- ---- side streets: the paper's sheet, with both its phases named for dwell, which begins with tick 552. The call goes off as phase 4 starts
 abbrev pub sideStreets : Sheet
 sideStreets = naming 2 (2 ∷ (4 ∷ replicate 6 0)) (phase 2 50 0 40 15 0 0 0) (phase 4 40 0 35 20 70 100 1) 270 150
@@ -202,7 +216,7 @@ clearsBy clearance = varied (phase 2 50 0 40 15 0 0 0) (phase 4 40 0 35 20 70 cl
 
 abbrev pub WithoutSix : Type 0
 WithoutSix =
-    (acceptOf (clearsBy 55) ≡ Fine) × (acceptOf (clearsBy 54) ≡ Refused ClearanceTooShort 8) × (ticks (l17 (clearsBy 54)) ≡ 126)
+    (acceptOf (clearsBy 55) ≡ Fine) × (acceptOf (clearsBy 54) ≡ Refused ClearanceTooShort 9) × (ticks (l17 (clearsBy 54)) ≡ 126)
     × (steppedAt (clearsBy 54) towardsFour (calls 126) ≡ Ending Normal 4 ToClearance (Red 19) (Clearance 54))
     × (steppedAt (clearsBy 54) towardsFour (calls 127) ≡ ClearanceGreen 0)
 

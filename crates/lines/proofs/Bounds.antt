@@ -58,9 +58,9 @@ bounds-of s h =
     let ps = take (s .«point_count») (s .points) in
     let times = timed ps (h .points) in
     let start = up-le (s .l18 + s .l19) 2 400 (omega arith) (omega (arith, h .l18, h .l19)) in
-    let clears : l24 s .0 ≤ 19998 = acceleration-le ps (s .vehicle) (s .grade) _ times in
-    let moves : l49 s .0 ≤ 19998 = acceleration-le ps (s .vehicle) (s .grade) _ times in
-    let stands : l54 s .0 ≤ 19998 = acceleration-le ps (s .vehicle) (s .grade) _ times in
+    let clears : l24 s .0 ≤ 19998 = acceleration-le ps (s .vehicle) _ _ times in
+    let moves : l49 s .0 ≤ 19998 = acceleration-le ps (s .vehicle) _ _ times in
+    let stands : l54 s .0 ≤ 19998 = acceleration-le ps (s .vehicle) _ _ times in
     let gate = up-le (s .l33 * s .l37) 100 9981 (omega arith) (omega (arith, mul-le-mul {n₁ = s .l33} {m₁ = s .l37} {n₂ = 999} {m₂ = 999} (h .l33) (h .l37 .high))) in
     let share = mul-le-mul {n₁ = s .l57} {m₁ = s .l58} {n₂ = 999} {m₂ = 100} (h .l57 .high) (h .l58) in
     record {

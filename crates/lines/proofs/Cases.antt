@@ -1,4 +1,4 @@
--- P1 to P10, computed by the definitions. Assumes nothing.
+-- P1 to P10 and the cases of the two grades, computed by the definitions. Assumes nothing.
 use lib.Dec.{T}
 use Rattle.units.specs.Numbers.{up, pick}
 use Rattle.sheet.specs.Refusals.{orElse, unless}
@@ -13,9 +13,13 @@ use Rattle.curve.specs.Curve.{betweenOf, levelFrom, levelOf, gradedOf, accelera
 use Rattle.rules.specs.Rules.{waited}
 use Rattle.lines.specs.Lines.{l03, l04, l05, l06, l07, l08, l09, l10, l11, l12, l13, l14, l15, l16, l17, l21, l22, l23, l24, l25, l26, l27, l29, l32, l34, l35, l36, l38, l40, l41, l43, l44, l45, l46, l48, l49, l50, l51, l52, l53, l54, l55, l59, l60, l61, linesOf}
 use Rattle.lines.specs.Worksheet.{zeroLines, worksheetOf, inOrder}
-use Rattle.lines.specs.Cases.{sheetWith, paperCases}
-use Rattle.lines.specs.Promises.{PaperCases}
+use Rattle.lines.specs.Cases.{sheetWith, paperCases, gradeCases}
+use Rattle.lines.specs.Promises.{PaperCases, GradeCases}
 
 pub paper-cases : PaperCases
 unfolding up pick orElse unless pedestrianTime timeOf worseOf worstFrom kindOf formOf rangesOf widthOf placeOf usedRanges inRange inRanges present gradeNumber numbersFrom flatOf quietInModeZero clearsYellowAndRed phaseFault startsAtZero pointRises beforePhase pointFits risesAfter ruleFault rowFault hereFault lineAfter faultFrom listedIn allListed wholeFault acceptOf table entryOf climb placeOn rowOf columnOf mixOf lineOf tableOf factorOf betweenOf levelFrom levelOf gradedOf accelerationOf waited l03 l04 l05 l06 l07 l08 l09 l10 l11 l12 l13 l14 l15 l16 l17 l21 l22 l23 l24 l25 l26 l27 l29 l32 l34 l35 l36 l38 l40 l41 l43 l44 l45 l46 l48 l49 l50 l51 l52 l53 l54 l55 l59 l60 l61 linesOf zeroLines worksheetOf inOrder sheetWith paperCases
 paper-cases = tt
+
+pub grade-cases : GradeCases
+unfolding up pick orElse unless pedestrianTime timeOf worseOf worstFrom kindOf formOf rangesOf widthOf placeOf usedRanges inRange inRanges present gradeNumber numbersFrom flatOf quietInModeZero clearsYellowAndRed phaseFault startsAtZero pointRises beforePhase pointFits risesAfter ruleFault rowFault hereFault lineAfter faultFrom listedIn allListed wholeFault acceptOf table entryOf climb placeOn rowOf columnOf mixOf lineOf tableOf factorOf betweenOf levelFrom levelOf gradedOf accelerationOf waited l03 l04 l05 l06 l07 l08 l09 l10 l11 l12 l13 l14 l15 l16 l17 l21 l22 l23 l24 l25 l26 l27 l29 l32 l34 l35 l36 l38 l40 l41 l43 l44 l45 l46 l48 l49 l50 l51 l52 l53 l54 l55 l59 l60 l61 linesOf zeroLines worksheetOf inOrder gradeCases
+grade-cases = tt

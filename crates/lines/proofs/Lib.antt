@@ -2,3 +2,4 @@ pub mod Bounds
 pub mod Promised
 pub mod Accepted
 pub mod Cases
+pub mod Grades

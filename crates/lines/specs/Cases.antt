@@ -1,10 +1,10 @@
--- "Both sides of each edge": P1 to P10 in one table, each case with what the definitions must give.
-use Prim.Native.Nat.{ℕ, _*_}
+-- "Both sides of each edge": P1 to P10 in one table, each case with what the definitions must give; then a site that levels out past the rails.
+use Prim.Native.Nat.{ℕ, _-_, _*_}
 use mathlib.Core.Bool.{Bool, true, false}
 use mathlib.Core.List.{List, [], _∷_}
 use lib.Dec.{eqb}
-use lib.IntN.{pos}
-use lib.ListN.{replicate}
+use lib.IntN.{ℤ, pos}
+use lib.ListN.{getD, replicate}
 use Rattle.units.specs.Numbers.{both, feet, tenths}
 use Rattle.sheet.specs.declared.Sheet.{Sheet}
 use Rattle.sheet.specs.declared.Phase.{Phase}
@@ -25,13 +25,14 @@ abbrev phase : ℕ → ℕ → ℕ → ℕ → ℕ → ℕ → ℕ → ℕ → P
 phase n g o y r w c m =
     record { number = n; green = g; other = o; yellow = y; red = r; walk = w; clearance = c; mode = m }
 
--- "One sheet, whole", with its second phase, l18, l19, l20, l31 and l47 left open
-unfoldable pub sheetWith : Phase → ℕ → ℕ → ℕ → ℕ → ℕ → Sheet
-sheetWith second l18 l19 l20 l31 l47 =
+-- "One sheet, whole", with its grades, second phase, l18, l19, l20, l31, l33, l39 and l47 left open
+abbrev pub sheetOn : ℤ → ℤ → Phase → ℕ → ℕ → ℕ → ℕ → ℕ → ℕ → ℕ → Sheet
+sheetOn grade grade2 second l18 l19 l20 l31 l33 l39 l47 =
     record {
       issue = 12;
       vehicle = Wb50;
-      grade = pos 0;
+      grade = grade;
+      grade2 = grade2;
       l01 = 0;
       l02 = 2;
       «phase_count» = 2;
@@ -46,9 +47,9 @@ sheetWith second l18 l19 l20 l31 l47 =
       l28 = 40;
       l30 = 200;
       l31 = l31;
-      l33 = 270;
+      l33 = l33;
       l37 = 125;
-      l39 = 150;
+      l39 = l39;
       l47 = l47;
       l56 = 30;
       l57 = 120;
@@ -57,16 +58,21 @@ sheetWith second l18 l19 l20 l31 l47 =
       points = point 0 0 ∷ point 100 140 ∷ point 400 320 ∷ replicate 13 zeroPoint;
     }
 
+-- level, as the paper has it
+unfoldable pub sheetWith : Phase → ℕ → ℕ → ℕ → ℕ → ℕ → Sheet
+sheetWith second l18 l19 l20 l31 l47 = sheetOn (pos 0) (pos 0) second l18 l19 l20 l31 270 150 l47
+
 abbrev pub secondPhase : Phase
 secondPhase = phase 4 40 0 35 20 70 100 1
 
 abbrev pub paperSheet : Sheet
 paperSheet = sheetWith secondPhase 60 41 55 10 60
 
--- a sheet with its 61 lines; a vehicle, distance and grade with the factor in thousandths, and with a level time and the time on the grade;
--- a sheet with the number and line of its answer
+-- a sheet with its 61 lines; one with some of them, each after its number; a vehicle, distance and grade with the factor in thousandths, and with a
+-- level time and the time on the grade; a sheet with the number and line of its answer
 pub data Case : Type 0 where
   works : Sheet → List ℕ → Case
+  shows : Sheet → List (ℕ × ℕ) → Case
   slows : Vehicle → ℕ → ℕ → ℕ → Case
   climbs : Vehicle → ℕ → ℕ → ℕ → ℕ → Case
   answers : Sheet → ℕ → ℕ → Case
@@ -77,8 +83,13 @@ same [] (y ∷ ys) = false
 same (x ∷ xs) [] = false
 same (x ∷ xs) (y ∷ ys) = both (eqb x y) (same xs ys)
 
+abbrev among : List ℕ → List (ℕ × ℕ) → Bool
+among lines [] = true
+among lines (x ∷ xs) = both (eqb (getD lines (x .0 - 1) 0) (x .1)) (among lines xs)
+
 abbrev pub right : Case → Bool
 right (works s lines) = both (isFine (worksheetOf s .answer)) (same (inOrder (worksheetOf s .lines)) lines)
+right (shows s lines) = both (isFine (worksheetOf s .answer)) (among (inOrder (worksheetOf s .lines)) lines)
 right (slows v d g n) =
     let f = factorOf v (pos g) (feet d) in
     eqb (f .over * 1000) (n * f .under)
@@ -115,8 +126,21 @@ paperCases =
     ∷ climbs Su 400 30 200 215
     -- P9 "mode 2, yellow 35, red 20: clearance 55 accepted, 54 refused 6"
     ∷ answers (sheetWith (phase 4 40 0 35 20 70 55 2) 60 41 55 10 60) 0 0
-    ∷ answers (sheetWith (phase 4 40 0 35 20 70 54 2) 60 41 55 10 60) 6 8
+    ∷ answers (sheetWith (phase 4 40 0 35 20 70 54 2) 60 41 55 10 60) 6 9
     -- P10 "line 48 of 400 with last point 400 accepted, 401 refused 9"
     ∷ answers (sheetWith secondPhase 209 41 150 10 209) 0 0
     ∷ answers (sheetWith secondPhase 210 41 150 10 210) 9 0
+    ∷ []
+
+-- request 2026-02: up 8 percent to the rails, with the gates down at the call
+abbrev pub uphill : ℤ → ℕ → Sheet
+uphill grade2 l47 = sheetOn (pos 80) grade2 secondPhase 60 41 55 10 0 0 l47
+
+unfoldable pub gradeCases : List Case
+gradeCases =
+    -- "Line 25 can now decide line 51": level past the rails, and nothing to relocate
+    shows (uphill (pos 0) 0) ((24, 221) ∷ (25, 292) ∷ (44, 0) ∷ (49, 135) ∷ (50, 206) ∷ (51, 300) ∷ (54, 123) ∷ [])
+    -- "with document 01's one grade a site that levels out past the rails got too long a green": 60 ft to relocate, by one grade and level
+    ∷ shows (uphill (pos 80) 60) ((24, 221) ∷ (25, 292) ∷ (49, 294) ∷ (50, 365) ∷ (51, 370) ∷ (54, 123) ∷ [])
+    ∷ shows (uphill (pos 0) 60) ((24, 221) ∷ (25, 292) ∷ (49, 174) ∷ (50, 245) ∷ (51, 300) ∷ (54, 123) ∷ [])
     ∷ []

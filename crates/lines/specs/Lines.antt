@@ -1,5 +1,6 @@
 -- The 61 lines of a sheet, in the paper's order. A line that only repeats the sheet has no rule beside it.
 use Prim.Native.Nat.{ℕ}
+use lib.IntN.{ℤ}
 use lib.ListN.{take}
 use Rattle.units.specs.Numbers.{feet, tenths, hundredths}
 use Rattle.units.specs.declared.Feet.{Feet}
@@ -98,14 +99,15 @@ l22 s = line22 (l21 s)
 unfoldable pub l23 : Sheet → Feet
 l23 s = l19 s along l20 s
 
--- "24, 49 and 54 are acceleration times over 23, 48 and 20. .. The one grade entered serves all three."
--- What an acceleration time is stands in curve's specs/Curve.antt
-abbrev pub acceleration : Sheet → Feet → Tenths
-acceleration s d = accelerationOf (take (s .«point_count») (s .points)) (s .vehicle) (s .grade) d
+-- "24, 49 and 54 are acceleration times over 23, 48 and 20." What an acceleration time is stands in curve's specs/Curve.antt.
+-- Where document 01 goes on "The one grade entered serves all three", request 2026-02 has: "Add `grade2` after `grade`, with the same range, used for
+-- line 49 only. Lines 24 and 54 keep the first." Document 01's lines stand in specs/Grades.antt
+abbrev pub acceleration : Sheet → ℤ → Feet → Tenths
+acceleration s grade d = accelerationOf (take (s .«point_count») (s .points)) (s .vehicle) grade d
 
--- 24 is the acceleration time over 23
+-- 24 is the acceleration time over 23, by the first grade
 unfoldable pub l24 : Sheet → Tenths
-l24 s = acceleration s (l23 s)
+l24 s = acceleration s (s .grade) (l23 s)
 
 -- "25 = 22 + 24"
 unfoldable pub l25 : Sheet → Tenths
@@ -194,15 +196,15 @@ l47 s = feet (s .l47)
 unfoldable pub l48 : Sheet → Feet
 l48 s = l46 s along l47 s
 
--- 49 is the acceleration time over 48
+-- 49 is the acceleration time over 48, by the second grade
 unfoldable pub l49 : Sheet → Tenths
-l49 s = acceleration s (l48 s)
+l49 s = acceleration s (s .grade2) (l48 s)
 
 -- "50 = 45 + 49"
 unfoldable pub l50 : Sheet → Tenths
 l50 s = l45 s plus l49 s
 
--- "51 is the largest of 44, 50 and (house) 25, up to a whole second."
+-- "51 is the largest of 44, 50 and (house) 25, up to a whole second." Request 2026-02: "Line 25 can now decide line 51"
 unfoldable pub l51 : Sheet → Tenths
 l51 s = line51 (l44 s) (l50 s) (l25 s)
 
@@ -213,9 +215,9 @@ l52 s = l17 s
 unfoldable pub l53 : Sheet → Tenths
 l53 s = l22 s
 
--- 54 is the acceleration time over 20
+-- 54 is the acceleration time over 20, by the first grade
 unfoldable pub l54 : Sheet → Tenths
-l54 s = acceleration s (l20 s)
+l54 s = acceleration s (s .grade) (l20 s)
 
 -- "55 = 52 + 53 + 54"
 unfoldable pub l55 : Sheet → Tenths

@@ -2,6 +2,9 @@
 use borrow.Author.Needs.{needs}
 use mathlib.Core.Path.{_≡_, _∙_}
 use native.Mathlib.Omega.{arith}
+use mir.Syntax.{w16}
+use mir.Val.{SFits}
+use mir.Facts.{toZ-ofZ}
 use Rattle.faults.proofs.Sound.{sound}
 use Rattle.rules.specs.Rules.{line22}
 use Rattle.lines.specs.Sums.{_plus_, _along_}
@@ -23,13 +26,16 @@ e23 : (c : tie.After-along2) → c .along2 .result ≡ l23 (c .before .before .b
 unfolding l23
 e23 c = c .along2 .ensures ∙ λ i. (c .before .before .before .before .distance2 .ensures) i along (c .before .before .before .distance3 .ensures) i
 
-e24 : (c : tie.After-acceleration) → c .acceleration .result ≡ l24 (c .before .before .before .before .before .before .before .args .s)
+e24 : (c : tie.After-acceleration) → c .acceleration .result ≡ l24 (c .before .before .before .before .before .before .before .before .args .s)
 unfolding l24
-e24 c = c .acceleration .ensures ∙ λ i. acceleration (c .before .before .before .before .before .before .before .args .s) ((e23 (c .before)) i)
+e24 c =
+    let s = c .before .before .before .before .before .before .before .before .args .s in
+    let f : SFits w16 (s .grade) = search needs in
+    c .acceleration .ensures ∙ λ i. acceleration s (toZ-ofZ f i) ((e23 (c .before .before)) i)
 
-e25 : (c : tie.After-plus) → c .plus .result ≡ l25 (c .before .before .before .before .before .before .before .before .args .s)
+e25 : (c : tie.After-plus) → c .plus .result ≡ l25 (c .before .before .before .before .before .before .before .before .before .args .s)
 unfolding l25
-e25 c = c .plus .ensures ∙ λ i. (e22 (c .before .before .before)) i plus (e24 (c .before)) i
+e25 c = c .plus .ensures ∙ λ i. (e22 (c .before .before .before .before)) i plus (e24 (c .before)) i
 
 distance-requires : tie.Need-distance-requires
 distance-requires c κs = search needs
@@ -62,15 +68,15 @@ acceleration-requires c κs = search needs
 
 plus-requires : tie.Need-plus-requires
 plus-requires c κs =
-    let s = c .before .before .before .before .before .before .before .args .s in
-    let h = sound s (c .before .before .before .before .before .before .before .pre) in
-    let b = bounds s (c .before .before .before .before .before .before .before .pre) in
-    (small-time _ (l22 s) 420 (e22 (c .before .before)) (b .l22) (omega arith), small-time _ (l24 s) 19998 (e24 (c)) (b .l24) (omega arith))
+    let s = c .before .before .before .before .before .before .before .before .args .s in
+    let h = sound s (c .before .before .before .before .before .before .before .before .pre) in
+    let b = bounds s (c .before .before .before .before .before .before .before .before .pre) in
+    (small-time _ (l22 s) 420 (e22 (c .before .before .before)) (b .l22) (omega arith), small-time _ (l24 s) 19998 (e24 (c)) (b .l24) (omega arith))
 
 returns : tie.Need-returns
 unfolding clearanceLines
 returns c =
-    λ i. record { l18 = c .before .before .before .before .before .before .before .distance .ensures i; l19 = c .before .before .before .before .before .before .distance2 .ensures i; l20 = c .before .before .before .before .before .distance3 .ensures i; l21 = e21 (c .before .before .before .before) i; l22 = e22 (c .before .before .before) i; l23 = e23 (c .before .before) i; l24 = e24 (c .before) i; l25 = e25 (c) i }
+    λ i. record { l18 = c .before .before .before .before .before .before .before .before .distance .ensures i; l19 = c .before .before .before .before .before .before .before .distance2 .ensures i; l20 = c .before .before .before .before .before .before .distance3 .ensures i; l21 = e21 (c .before .before .before .before .before) i; l22 = e22 (c .before .before .before .before) i; l23 = e23 (c .before .before .before) i; l24 = e24 (c .before) i; l25 = e25 (c) i }
 
 pub clearance-lines-spec : {M : Type 1} → statement M
 clearance-lines-spec =

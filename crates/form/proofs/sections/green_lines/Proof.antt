@@ -3,6 +3,9 @@ use borrow.Author.Needs.{needs}
 use mathlib.Core.Path.{_≡_, _∙_}
 use native.Mathlib.Omega.{arith}
 use Rattle.units.specs.Numbers.{tenths}
+use mir.Syntax.{w16}
+use mir.Val.{SFits}
+use mir.Facts.{toZ-ofZ}
 use Rattle.faults.proofs.Sound.{sound}
 use Rattle.rules.specs.Rules.{line51}
 use Rattle.lines.specs.Sums.{_plus_, _along_}
@@ -16,24 +19,27 @@ e48 : (c : tie.After-along) → c .along .result ≡ l48 (c .before .before .arg
 unfolding l48 l46
 e48 c = c .along .ensures ∙ λ i. (c .before .before .pre .2) i along (c .before .distance .ensures) i
 
-e49 : (c : tie.After-acceleration) → c .acceleration .result ≡ l49 (c .before .before .before .args .s)
+e49 : (c : tie.After-acceleration) → c .acceleration .result ≡ l49 (c .before .before .before .before .args .s)
 unfolding l49
-e49 c = c .acceleration .ensures ∙ λ i. acceleration (c .before .before .before .args .s) ((e48 (c .before)) i)
+e49 c =
+    let s = c .before .before .before .before .args .s in
+    let f : SFits w16 (s .grade2) = search needs in
+    c .acceleration .ensures ∙ λ i. acceleration s (toZ-ofZ f i) ((e48 (c .before .before)) i)
 
-e50 : (c : tie.After-plus) → c .plus .result ≡ l50 (c .before .before .before .before .args .s)
+e50 : (c : tie.After-plus) → c .plus .result ≡ l50 (c .before .before .before .before .before .args .s)
 unfolding l50 l45
-e50 c = c .plus .ensures ∙ λ i. (c .before .before .before .before .pre .1) i plus (e49 (c .before)) i
+e50 c = c .plus .ensures ∙ λ i. (c .before .before .before .before .before .pre .1) i plus (e49 (c .before)) i
 
-n44 : (c : tie.After-number) → tenths (c .number .result) ≡ l44 (c .before .before .before .before .before .args .s)
-n44 c = c .number .ensures ∙ c .before .before .before .before .before .pre .4
+n44 : (c : tie.After-number) → tenths (c .number .result) ≡ l44 (c .before .before .before .before .before .before .args .s)
+n44 c = c .number .ensures ∙ c .before .before .before .before .before .before .pre .4
 
-n50 : (c : tie.After-number2) → tenths (c .number2 .result) ≡ l50 (c .before .before .before .before .before .before .args .s)
+n50 : (c : tie.After-number2) → tenths (c .number2 .result) ≡ l50 (c .before .before .before .before .before .before .before .args .s)
 n50 c = c .number2 .ensures ∙ e50 (c .before .before)
 
-n25 : (c : tie.After-number3) → tenths (c .number3 .result) ≡ l25 (c .before .before .before .before .before .before .before .args .s)
-n25 c = c .number3 .ensures ∙ c .before .before .before .before .before .before .before .pre .3
+n25 : (c : tie.After-number3) → tenths (c .number3 .result) ≡ l25 (c .before .before .before .before .before .before .before .before .args .s)
+n25 c = c .number3 .ensures ∙ c .before .before .before .before .before .before .before .before .pre .3
 
-e51 : (c : tie.After-line51) → c .line51 .result ≡ l51 (c .before .before .before .before .before .before .before .before .args .s)
+e51 : (c : tie.After-line51) → c .line51 .result ≡ l51 (c .before .before .before .before .before .before .before .before .before .args .s)
 unfolding l51
 e51 c = c .line51 .ensures ∙ λ i. line51 (n44 (c .before .before .before) i) (n50 (c .before .before) i) (n25 (c .before) i)
 
@@ -52,28 +58,28 @@ acceleration-requires c κs = search needs
 
 plus-requires : tie.Need-plus-requires
 plus-requires c κs =
-    let s = c .before .before .before .args .s in
-    let h = sound s (c .before .before .before .pre .0) in
-    let b = bounds s (c .before .before .before .pre .0) in
-    (small-time _ (l22 s) 420 (c .before .before .before .pre .1) (b .l22) (omega arith), small-time _ (l49 s) 19998 (e49 (c)) (b .l49) (omega arith))
+    let s = c .before .before .before .before .args .s in
+    let h = sound s (c .before .before .before .before .pre .0) in
+    let b = bounds s (c .before .before .before .before .pre .0) in
+    (small-time _ (l22 s) 420 (c .before .before .before .before .pre .1) (b .l22) (omega arith), small-time _ (l49 s) 19998 (e49 (c)) (b .l49) (omega arith))
 
 number-requires : tie.Need-number-requires
 number-requires c κs =
-    let s = c .before .before .before .before .args .s in
-    let b = bounds s (c .before .before .before .before .pre .0) in
-    small-time _ (l44 s) 10980 (c .before .before .before .before .pre .4) (b .l44) (omega arith)
+    let s = c .before .before .before .before .before .args .s in
+    let b = bounds s (c .before .before .before .before .before .pre .0) in
+    small-time _ (l44 s) 10980 (c .before .before .before .before .before .pre .4) (b .l44) (omega arith)
 
 number-requires-2 : tie.Need-number-requires-2
 number-requires-2 c κs =
-    let s = c .before .before .before .before .before .args .s in
-    let b = bounds s (c .before .before .before .before .before .pre .0) in
+    let s = c .before .before .before .before .before .before .args .s in
+    let b = bounds s (c .before .before .before .before .before .before .pre .0) in
     small-time _ (l50 s) 20418 (e50 (c .before)) (b .l50) (omega arith)
 
 number-requires-3 : tie.Need-number-requires-3
 number-requires-3 c κs =
-    let s = c .before .before .before .before .before .before .args .s in
-    let b = bounds s (c .before .before .before .before .before .before .pre .0) in
-    small-time _ (l25 s) 20418 (c .before .before .before .before .before .before .pre .3) (b .l25) (omega arith)
+    let s = c .before .before .before .before .before .before .before .args .s in
+    let b = bounds s (c .before .before .before .before .before .before .before .pre .0) in
+    small-time _ (l25 s) 20418 (c .before .before .before .before .before .before .before .pre .3) (b .l25) (omega arith)
 
 line51-requires : tie.Need-line51-requires
 line51-requires c κs = search needs
@@ -81,7 +87,7 @@ line51-requires c κs = search needs
 returns : tie.Need-returns
 unfolding greenLines
 returns c =
-    λ i. record { l47 = c .before .before .before .before .before .before .before .distance .ensures i; l48 = e48 (c .before .before .before .before .before .before) i; l49 = e49 (c .before .before .before .before .before) i; l50 = e50 (c .before .before .before .before) i; l51 = e51 (c) i }
+    λ i. record { l47 = c .before .before .before .before .before .before .before .before .distance .ensures i; l48 = e48 (c .before .before .before .before .before .before .before) i; l49 = e49 (c .before .before .before .before .before) i; l50 = e50 (c .before .before .before .before) i; l51 = e51 (c) i }
 
 pub green-lines-spec : {M : Type 1} → statement M
 green-lines-spec =

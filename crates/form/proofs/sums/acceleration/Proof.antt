@@ -1,10 +1,8 @@
--- `form::sums::acceleration` meets its contract: the grade that is passed on is the sheet's. Assumes nothing.
+-- `form::sums::acceleration` meets its contract: the grade that is passed on is the one it was given. Assumes nothing.
 use borrow.Author.Needs.{needs}
 use mathlib.Core.Path.{_∙_, ap}
 use lib.IntN.{ℤ}
 use lib.ListN.{take}
-use mir.Syntax.{w16}
-use mir.Val.{SFits}
 use mir.Facts.{toZ-ofZ}
 use Rattle.curve.specs.Curve.{accelerationOf}
 use Rattle.form.proofs.sums.acceleration.Statement.{statement}
@@ -15,9 +13,8 @@ acceleration-requires c κs = search needs
 
 returns : tie.Need-returns
 returns c =
-    let s = c .before .before .before .args .s in
-    let f : SFits w16 (s .grade) = search needs in
-    c .acceleration .ensures ∙ ap (λ (g : ℤ). accelerationOf (take (s .«point_count») (s .points)) (s .vehicle) g (c .before .before .before .args .d)) (toZ-ofZ f)
+    let s = c .before .before .args .s in
+    c .acceleration .ensures ∙ ap (λ (g : ℤ). accelerationOf (take (s .«point_count») (s .points)) (s .vehicle) g (c .before .before .args .d)) (toZ-ofZ (c .before .before .fits .grade))
 
 pub acceleration-spec : {M : Type 1} → statement M
 acceleration-spec = tie.close (tie.spec acceleration-requires returns)
