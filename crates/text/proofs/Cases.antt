@@ -16,17 +16,16 @@ use Rattle.sheet.specs.declared.Refusal.the-variants.{Malformed}
 use Rattle.sheet.specs.Zero.{zeroSheet}
 use Rattle.sheet.specs.declared.Sheet.{Sheet}
 use Rattle.sheet.specs.Refusals.{isFine, orElse}
-use Rattle.rows.specs.Table.{bytes, plain, rowCount, numberCount, keyOf, present}
+use Rattle.rows.specs.Table.{bytes, plain, rowCount, numberCount, kindOf, keyOf, absentOf, present}
 use Rattle.rows.specs.Marks.{markOf, lineFeed}
 use Rattle.numbers.specs.Flat.{sheetOf}
-use Rattle.faults.specs.Lines.{lineAfter}
 use Rattle.figures.specs.declared.Figure.{Figure}
 use Rattle.figures.specs.declared.Figure.the-variants.{Bad, Is}
 use Rattle.figures.specs.declared.Place.{Place}
 use Rattle.figures.specs.declared.Place.the-variants.{Nowhere, At}
 use Rattle.figures.specs.Figures.{onPlace, numberAt, after, afterAt}
 use Rattle.text.specs.Line.{Taken, fieldAt, bad, good, fields, listEnd, listFields, lineAt}
-use Rattle.text.specs.Read.{Step, malformed, judgedAt, endAt, hereAt, linesFrom, linesOf, reply, readOf}
+use Rattle.text.specs.Read.{Step, malformed, judgedAt, endAt, passed, filled, hereAt, linesFrom, linesOf, reply, readBy, mayLack}
 
 -- a place and a figure by cases, with the equation
 pub byPlace : {X : Type 0} (p : Place) → (p ≡ Nowhere → X) → ((q : ℕ) → p ≡ At q → X) → X
@@ -168,23 +167,23 @@ fed-in s at q e =
     (λ t. never (ap (λ (x : Place). onPlace x (λ (n : ℕ). true) false) (rw (drop-of-length-le s (ltb-false at (length s) t)) at e)))
 
 -- all lines, from a row on
-module _ (s : List ℕ) (row line at : ℕ) (v : List ℕ) where
-  pub lines-end : rowCount ≤ row → linesFrom s (rowCount - row) row line at v ≡ endAt s line at v
+module _ (may : ℕ → Bool) (s : List ℕ) (row line at : ℕ) (v : List ℕ) where
+  pub lines-end : rowCount ≤ row → linesFrom may s (rowCount - row) row line at v ≡ endAt s line at v
   unfolding linesFrom
   lines-end h = let e : rowCount - row ≡ 0 = omega arith in rw e
 
-  pub lines-absent : row < rowCount → present v row ≡ false → linesFrom s (rowCount - row) row line at v ≡ linesFrom s (rowCount - (row + 1)) (row + 1) line at v
-  unfolding linesFrom hereAt lineAfter pick
-  lines-absent h a = let e : rowCount - row ≡ suc (rowCount - (row + 1)) = omega arith in rw (e, a)
+  pub lines-passed : row < rowCount → passed may s at row v ≡ true → linesFrom may s (rowCount - row) row line at v ≡ linesFrom may s (rowCount - (row + 1)) (row + 1) line at (filled v row)
+  unfolding linesFrom hereAt pick
+  lines-passed h a = let e : rowCount - row ≡ suc (rowCount - (row + 1)) = omega arith in rw (e, a)
 
   module _ (t : Step) (taken : t ≡ judgedAt s at row line v) where
-    pub lines-bad : row < rowCount → present v row ≡ true → isFine (t .answer) ≡ false → linesFrom s (rowCount - row) row line at v ≡ t
-    unfolding linesFrom hereAt lineAfter pick
+    pub lines-bad : row < rowCount → passed may s at row v ≡ false → isFine (t .answer) ≡ false → linesFrom may s (rowCount - row) row line at v ≡ t
+    unfolding linesFrom hereAt pick
     lines-bad h a b = let e : rowCount - row ≡ suc (rowCount - (row + 1)) = omega arith in rw (e, a, ← taken, b)
 
-    pub lines-step : row < rowCount → present v row ≡ true → isFine (t .answer) ≡ true
-        → linesFrom s (rowCount - row) row line at v ≡ linesFrom s (rowCount - (row + 1)) (row + 1) (line + 1) (t .next) (t .numbers)
-    unfolding linesFrom hereAt lineAfter pick
+    pub lines-step : row < rowCount → passed may s at row v ≡ false → isFine (t .answer) ≡ true
+        → linesFrom may s (rowCount - row) row line at v ≡ linesFrom may s (rowCount - (row + 1)) (row + 1) (line + 1) (t .next) (t .numbers)
+    unfolding linesFrom hereAt pick
     lines-step h a b = let e : rowCount - row ≡ suc (rowCount - (row + 1)) = omega arith in rw (e, a, ← taken, b)
 
 -- a refusal comes with the zero sheet, whatever was read
@@ -192,10 +191,15 @@ pub reply-bad : (a : Answer) (s t : Sheet) → isFine a ≡ false → reply a s 
 unfolding reply pick
 reply-bad a s t e = rw e
 
--- a text that does not begin with the first key
-pub not-begun : (text : List ℕ) → afterAt text 0 (keyOf 0) ≡ Nowhere → reply (Refused Malformed 1) zeroSheet ≡ readOf text
-unfolding readOf judgedAt lineAt present pick orElse
-not-begun text e =
+-- the first line may not be absent: a text that does not begin with its key
+first-not-passed : (older : Bool) (text : List ℕ) → passed (mayLack older) text 0 0 (replicate numberCount 0) ≡ false
+unfolding passed mayLack absentOf kindOf present pick
+first-not-passed true text = refl
+first-not-passed false text = refl
+
+pub not-begun : (older : Bool) (text : List ℕ) → afterAt text 0 (keyOf 0) ≡ Nowhere → reply (Refused Malformed 1) zeroSheet ≡ readBy (mayLack older) text
+unfolding readBy judgedAt lineAt pick orElse
+not-begun older text e =
     let first : malformed 1 (replicate numberCount 0) ≡ judgedAt text 0 0 1 (replicate numberCount 0) = rw e refl in
-    let all : linesOf text ≡ malformed 1 (replicate numberCount 0) = lines-bad text 0 1 0 (replicate numberCount 0) (malformed 1 (replicate numberCount 0)) first (omega arith) refl refl in
+    let all : linesOf (mayLack older) text ≡ malformed 1 (replicate numberCount 0) = lines-bad (mayLack older) text 0 1 0 (replicate numberCount 0) (malformed 1 (replicate numberCount 0)) first (omega arith) (first-not-passed older text) refl in
     rw all (reply-bad (Refused Malformed 1) zeroSheet (sheetOf (replicate numberCount 0)) refl)

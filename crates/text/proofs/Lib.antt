@@ -8,3 +8,6 @@ pub mod Room
 pub mod Pieces
 pub mod Promised
 pub mod Lists
+pub mod Forms
+pub mod Past
+pub mod Absent

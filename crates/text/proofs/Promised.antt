@@ -10,7 +10,7 @@ use Rattle.sheet.specs.Refusals.{isFine, orElse}
 use Rattle.sheet.specs.Zero.{zeroSheet}
 use Rattle.numbers.specs.Flat.{sheetOf}
 use Rattle.faults.specs.Whole.{wholeFault}
-use Rattle.text.specs.Read.{linesOf, reply, readOf}
+use Rattle.text.specs.Read.{linesOf, reply, readBy}
 use Rattle.text.specs.Promises.{RefusedIsZero}
 
 reply-refused : (a : Answer) (s : Sheet) → isFine (reply a s .answer) ≡ false → reply a s .sheet ≡ zeroSheet
@@ -19,5 +19,5 @@ reply-refused Fine s e = never (sym e)
 reply-refused (Refused r l) s e = refl
 
 pub refused-is-zero : RefusedIsZero
-unfolding readOf
-refused-is-zero t e = reply-refused (orElse (linesOf t .answer) (wholeFault (sheetOf (linesOf t .numbers)))) (sheetOf (linesOf t .numbers)) e
+unfolding readBy
+refused-is-zero may t e = reply-refused (orElse (linesOf may t .answer) (wholeFault (sheetOf (linesOf may t .numbers)))) (sheetOf (linesOf may t .numbers)) e

@@ -22,7 +22,7 @@ use Rattle.rows.specs.Table.{Range, _to_, plain, list, rowCount, phaseKind, poi
 use Rattle.rows.proofs.Tables.{list-row}
 use Rattle.faults.specs.Lines.{ruleFault, rowFault}
 
-key-long : (row : ℕ) → row < rowCount → 3 ≤ length (keyOf row)
+pub key-long : (row : ℕ) → row < rowCount → 3 ≤ length (keyOf row)
 unfolding keyOf kindOf
 key-long row h = leb→le 3 (length (keyOf row)) (at (λ (r : ℕ). leb 3 (length (keyOf r))) rowCount tt row h)
 

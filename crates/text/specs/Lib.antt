@@ -5,3 +5,4 @@ pub mod Text
 pub mod Write
 pub mod Promises
 pub mod Lists
+pub mod Forms

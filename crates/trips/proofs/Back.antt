@@ -1,4 +1,4 @@
--- What was read is what is written: a text that is read as the numbers w is the text of w, row by row. Assumes nothing.
+-- What was read of a line is what is written: a line that is read as the numbers w is the line of w. Assumes nothing.
 use Prim.Native.Nat.{ℕ, zero, suc, _+_, _-_, _≤_, _<_, min}
 use mathlib.Core.Path.{_≡_, refl, sym, ap, _∙_}
 use mathlib.Core.List.{List, [], _++_}
@@ -35,14 +35,14 @@ use Rattle.trips.proofs.Agree.{Below, used, used-all, used-list, used-a
 
 -- ---- the numbers of a line that was read: what they were, and that no other number has changed
 
-record Stored (v w : List ℕ) (from to : ℕ) : Type 0 where
-  before : (m : ℕ) → m < from → getD w m 0 ≡ getD v m 0
-  behind : (m : ℕ) → to ≤ m → getD w m 0 ≡ getD v m 0
-  long : length w ≡ length v
+pub record Stored (v w : List ℕ) (from to : ℕ) : Type 0 where
+  pub before : (m : ℕ) → m < from → getD w m 0 ≡ getD v m 0
+  pub behind : (m : ℕ) → to ≤ m → getD w m 0 ≡ getD v m 0
+  pub long : length w ≡ length v
 
-record Read (s v w : List ℕ) (p q : ℕ) (t : List ℕ) (from to : ℕ) : Type 0 where
-  cut : Cut s p q t
-  stored : Stored v w from to
+pub record Read (s v w : List ℕ) (p q : ℕ) (t : List ℕ) (from to : ℕ) : Type 0 where
+  pub cut : Cut s p q t
+  pub stored : Stored v w from to
 
 bad-good : {X : Type 0} (v w : List ℕ) (q : ℕ) → bad v ≡ good q w → X
 bad-good v w q e = never (ap (λ (t : Taken). t .good) e)
@@ -216,11 +216,11 @@ ended-back s t q w e =
     (λ i. record { good = g i; next = t .next; numbers = ev i }, after-back s (t .next) q lineFeed (a ∙ ap At er))))
     (λ g. never (let e′ : record { good = false; next = t .next; numbers = t .numbers } ≡ good q w = rw g at e in ap (λ (x : Taken). x .good) e′))
 
-record Line (s v w : List ℕ) (row at q : ℕ) : Type 0 where
-  read : Read s v w at q (rowText row w) (placeOf row) (placeOf row + widthOf row)
-  bare : ((m : ℕ) → placeOf row ≤ m → getD v m 0 ≡ 0) → (m : ℕ) → placeOf row + used w row ≤ m → m < placeOf row + widthOf row → getD w m 0 ≡ 0
+pub record Line (s v w : List ℕ) (row at q : ℕ) : Type 0 where
+  pub read : Read s v w at q (rowText row w) (placeOf row) (placeOf row + widthOf row)
+  pub bare : ((m : ℕ) → placeOf row ≤ m → getD v m 0 ≡ 0) → (m : ℕ) → placeOf row + used w row ≤ m → m < placeOf row + widthOf row → getD w m 0 ≡ 0
 
-line-back : (s : List ℕ) (at row : ℕ) (v : List ℕ) (q : ℕ) (w : List ℕ) → placeOf row + widthOf row ≤ length v → lineAt s at row v ≡ good q w → Line s v w row at q
+pub line-back : (s : List ℕ) (at row : ℕ) (v : List ℕ) (q : ℕ) (w : List ℕ) → placeOf row + widthOf row ≤ length v → lineAt s at row v ≡ good q w → Line s v w row at q
 unfolding lineAt rowText
 line-back s at row v q w h e =
     byPlace (afterAt s at (keyOf row))
@@ -235,11 +235,11 @@ line-back s at row v q w h e =
     })
 
 -- a fine step: a well-made line without a fault
-record Good (s : List ℕ) (at row number : ℕ) (v : List ℕ) (t : Step) : Type 0 where
-  line : lineAt s at row v ≡ good (t .next) (t .numbers)
-  fine : rowFault (t .numbers) row number ≡ Fine
+pub record Good (s : List ℕ) (at row number : ℕ) (v : List ℕ) (t : Step) : Type 0 where
+  pub line : lineAt s at row v ≡ good (t .next) (t .numbers)
+  pub fine : rowFault (t .numbers) row number ≡ Fine
 
-judged-back : (s : List ℕ) (at row line : ℕ) (v : List ℕ) → isFine (judgedAt s at row line v .answer) ≡ true → Good s at row line v (judgedAt s at row line v)
+pub judged-back : (s : List ℕ) (at row line : ℕ) (v : List ℕ) → isFine (judgedAt s at row line v .answer) ≡ true → Good s at row line v (judgedAt s at row line v)
 unfolding judgedAt pick
 judged-back s at row line v f =
     split (lineAt s at row v .good)
@@ -270,115 +270,7 @@ ClearAt v row = (m : ℕ) → placeOf row + held v row ≤ m → m < placeOf row
 abbrev pub Clear : ℕ → List ℕ → Type 0
 Clear from v = (row : ℕ) → from ≤ row → row < rowCount → ClearAt v row
 
-pub record Whole (s : List ℕ) (n row line at : ℕ) (v w : List ℕ) : Type 0 where
-  pub text : drop at s ≡ textFrom w n row
-  pub before : Below (placeOf row) v w
-  pub long : length w ≡ numberCount
-  pub checked : faultFrom w n row line ≡ Fine
-  pub clear : Clear row w
-
--- a row passed over or read, up to the numbers u and the place p
-record Here (s : List ℕ) (row number at : ℕ) (v u : List ℕ) (p : ℕ) : Type 0 where
-  below : Below (placeOf row) v u
-  behind : (m : ℕ) → placeOf row + widthOf row ≤ m → getD u m 0 ≡ getD v m 0
-  long : length u ≡ length v
-  fault : (w : List ℕ) → length w ≡ length u → Below (placeOf row + widthOf row) u w → hereFault w row number ≡ Fine
-  text : (w : List ℕ) → Below (placeOf row + widthOf row) u w → drop at s ≡ hereText row w ++ drop p s
-  clear : (w : List ℕ) → Below (placeOf row + widthOf row) u w → ClearAt w row
-
-module _ (s : List ℕ) (row line at : ℕ) (v : List ℕ) (h : row < rowCount) where
-  absent-here : ((m : ℕ) → placeOf row ≤ m → getD v m 0 ≡ 0) → present v row ≡ false → Here s row line at v v at
-  unfolding hereFault hereText pick
-  absent-here z a =
-      let same : (w : List ℕ) → Below (placeOf row + widthOf row) v w → present w row ≡ false = λ w b. present-below row v w h (λ m l. b m (omega arith)) ∙ a in
-      record {
-        below = λ m l. refl;
-        behind = λ m l. refl;
-        long = refl;
-        fault = λ w k b. rw (same w b);
-        text = λ w b. rw (same w b);
-        clear = λ w b m g l. b m l ∙ z m (omega (arith, held-none w row (same w b)));
-      }
-
-  present-here : length v ≡ numberCount → ((m : ℕ) → placeOf row ≤ m → getD v m 0 ≡ 0) → present v row ≡ true → (t : Step) → Good s at row line v t → Here s row line at v (t .numbers) (t .next)
-  unfolding hereFault hereText pick
-  present-here e z a t g =
-      let c = line-back s at row v (t .next) (t .numbers) (omega (arith, place-room row h)) (g .line) in
-      let r = c .read in
-      let u = t .numbers in
-      let same : (w : List ℕ) → Below (placeOf row + widthOf row) u w → present w row ≡ true =
-      λ w b. present-below row v w h (λ m l. b m (omega arith) ∙ r .stored .before m l) ∙ a in
-      record {
-        below = r .stored .before;
-        behind = r .stored .behind;
-        long = r .stored .long;
-        fault = λ w k b. rw (same w b) (fault-below row line u w h k b ∙ g .fine);
-        text = λ w b. rw (same w b) (r .cut .here ∙ ap (λ (x : List ℕ). x ++ drop (t .next) s) (sym (row-agree row u w (row-below row u w b))));
-        clear =
-            λ w b m g l.
-            let few : used w row ≡ used u row = ap length (used-agree row u w (row-below row u w b)) in
-            b m l ∙ c .bare z m (omega (arith, held-here w row (same w b))) l;
-      }
-
-  here-back : length v ≡ numberCount → ((m : ℕ) → placeOf row ≤ m → getD v m 0 ≡ 0) → isFine (hereAt s at row line v .answer) ≡ true
-      → Here s row line at v (hereAt s at row line v .numbers) (hereAt s at row line v .next)
-  unfolding hereAt pick
-  here-back e z f =
-      split (present v row)
-      (λ a. rw a (present-here e z a (judgedAt s at row line v) (judged-back s at row line v (rw a at f))))
-      (λ a. rw a (absent-here z a))
-
-step-back : (t : Step) (g : ℕ → List ℕ → Step) → isFine (onStep t g .answer) ≡ true → (isFine (t .answer) ≡ true) × (onStep t g ≡ g (t .next) (t .numbers))
-unfolding pick
-step-back t g f = split (isFine (t .answer)) (λ a. (a, rw a)) (λ a. never (sym a ∙ rw a at f))
-
--- the end: nothing is left of the text
-end-back : (s : List ℕ) (line at : ℕ) (v : List ℕ) → isFine (endAt s line at v .answer) ≡ true → (at ≡ length s) × (endAt s line at v .numbers ≡ v)
-unfolding endAt pick
-end-back s line at v f = split (eqb at (length s)) (λ t. (eqb-true at (length s) t, rw t)) (λ t. never (rw t at f))
-
--- at the end, and one row more
-whole-end : (s : List ℕ) (row line at : ℕ) (v : List ℕ) → rowCount ≤ row → length v ≡ numberCount → drop at s ≡ [] → Whole s 0 row line at v v
-unfolding textFrom faultFrom
-whole-end s row line at v k l e =
-    record { text = e; before = λ m i. refl; long = l; checked = refl; clear = λ r g i. absurd (omega arith) }
-
-whole-next : (s : List ℕ) (n row line at : ℕ) (v u w : List ℕ) (p : ℕ) → row < rowCount → length v ≡ numberCount → Here s row line at v u p → Whole s n (row + 1) (lineAfter v row line) p u w → Whole s (suc n) row line at v w
-unfolding faultFrom textFrom lineAfter orElse
-whole-next s n row line at v u w p h lv r o =
-    let b : Below (placeOf row + widthOf row) u w = λ m l. o .before m (omega (arith, place-next row)) in
-    let bv : Below (placeOf row) v w = λ m l. b m (omega arith) ∙ r .below m l in
-    record {
-      text = r .text w b ∙ rw (o .text) refl;
-      before = bv;
-      long = o .long;
-      checked = rw (r .fault w (o .long ∙ sym (r .long ∙ lv)) b, present-below row v w h bv) (o .checked);
-      clear =
-          λ k g l m i j. split (eqb row k)
-          (λ q. let e = eqb-true row k q in r .clear w b m (rw (← e) at i) (rw (← e) at j))
-          (λ q. let ne : (row ≡ k → ⊥) = eqb-false row k q in o .clear k (omega arith) l m i j);
-    }
-
-pub lines-back : (s : List ℕ) (n row line at : ℕ) (v : List ℕ) → n + row ≡ rowCount → length v ≡ numberCount → ((m : ℕ) → placeOf row ≤ m → getD v m 0 ≡ 0)
-    → isFine (linesFrom s n row line at v .answer) ≡ true → Whole s n row line at v (linesFrom s n row line at v .numbers)
-unfolding linesFrom
-lines-back s zero row line at v k l z f =
-    let b = end-back s line at v f in
-    let over : length s ≤ at = omega (arith, b .0) in
-    rw (b .1) (whole-end s row line at v (omega arith) l (drop-of-length-le s over))
-lines-back s (suc n) row line at v k l z f =
-    let t = hereAt s at row line v in
-    let on = step-back t (λ p w. linesFrom s n (row + 1) (lineAfter v row line) p w) f in
-    let here = here-back s row line at v (omega arith) l z (on .0) in
-    let zero-behind : (m : ℕ) → placeOf (row + 1) ≤ m → getD (t .numbers) m 0 ≡ 0 = λ m g. here .behind m (omega (arith, place-next row)) ∙ z m (omega (arith, place-next row)) in
-    let rest = lines-back s n (row + 1) (lineAfter v row line) (t .next) (t .numbers) (omega arith) (here .long ∙ l) zero-behind (rw (on .1) at f) in
-    rw (on .1) (whole-next s n row line at v (t .numbers) _ (t .next) (omega arith) l here rest)
-
 pub zeros-in : (a b : ℕ) → getD {A = ℕ} (replicate a 0) b 0 ≡ 0
 zeros-in a b =
     split (ltb b a) (λ t. getD-replicate a b 0 0 (ltb-true b a t))
     (λ t. let h : length {A = ℕ} (replicate a 0) ≤ b = rw (length-replicate) (ltb-false b a t) in List·getD-eq-default (replicate a 0) 0 h)
-
--- a text whose lines are fine is the text of the numbers that were read
-pub text-back : (s : List ℕ) → linesOf s .answer ≡ Fine → Whole s rowCount 0 1 0 (replicate numberCount 0) (linesOf s .numbers)
-text-back s e = lines-back s rowCount 0 1 0 (replicate numberCount 0) refl refl (λ m g. zeros-in numberCount m) (ap isFine e)

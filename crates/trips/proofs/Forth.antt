@@ -37,26 +37,26 @@ use Rattle.trips.proofs.Back.{ClearAt, Clear, held-here, held-none, zer
 
 -- ---- the first m numbers, and zeros behind them
 
-unfoldable part : List ℕ → ℕ → List ℕ
+unfoldable pub part : List ℕ → ℕ → List ℕ
 part v m = take m v ++ replicate (numberCount - m) 0
 
-part-at : (v : List ℕ) (m j : ℕ) → m ≤ length v → j < m → getD (part v m) j 0 ≡ getD v j 0
+pub part-at : (v : List ℕ) (m j : ℕ) → m ≤ length v → j < m → getD (part v m) j 0 ≡ getD v j 0
 unfolding part
 part-at v m j h l = List·getD-append (take m v) (replicate (numberCount - m) 0) 0 j (rw (length-take-le m v h) l) ∙ getD-take m v j 0 l
 
-part-long : (v : List ℕ) (m : ℕ) → length v ≡ numberCount → m ≤ numberCount → length (part v m) ≡ numberCount
+pub part-long : (v : List ℕ) (m : ℕ) → length v ≡ numberCount → m ≤ numberCount → length (part v m) ≡ numberCount
 unfolding part
 part-long v m h l =
     let hm : m ≤ length v = omega arith in
     length-append (take m v) (replicate (numberCount - m) 0) ∙ rw (length-take-le m v hm, length-replicate) (omega arith)
 
-part-behind : (v : List ℕ) (m j : ℕ) → m ≤ length v → m ≤ j → getD (part v m) j 0 ≡ 0
+pub part-behind : (v : List ℕ) (m j : ℕ) → m ≤ length v → m ≤ j → getD (part v m) j 0 ≡ 0
 unfolding part
 part-behind v m j h l =
     let e : j ≡ length (take m v) + (j - m) = rw (length-take-le m v h) (omega arith) in
     ap (λ (k : ℕ). getD (take m v ++ replicate (numberCount - m) 0) k 0) e ∙ getD-append-add (take m v) (replicate (numberCount - m) 0) (j - m) 0 ∙ zeros-in (numberCount - m) (j - m)
 
-part-set : (v : List ℕ) (m : ℕ) → length v ≡ numberCount → m < numberCount → set (part v m) m (getD v m 0) ≡ part v (m + 1)
+pub part-set : (v : List ℕ) (m : ℕ) → length v ≡ numberCount → m < numberCount → set (part v m) m (getD v m 0) ≡ part v (m + 1)
 unfolding part
 part-set v m h l =
     let e : numberCount - m ≡ suc (numberCount - (m + 1)) = omega arith in
@@ -66,7 +66,7 @@ part-set v m h l =
     ∙ rw (add-one m, take-suc v m 0 hl) (sym (append-assoc (take m v) (getD v m 0 ∷ []) (replicate (numberCount - suc m) 0))))
 
 -- numbers that are 0 between two places
-part-over : (v : List ℕ) (m n : ℕ) → length v ≡ numberCount → m ≤ n → n ≤ numberCount → ((j : ℕ) → m ≤ j → j < n → getD v j 0 ≡ 0) → part v m ≡ part v n
+pub part-over : (v : List ℕ) (m n : ℕ) → length v ≡ numberCount → m ≤ n → n ≤ numberCount → ((j : ℕ) → m ≤ j → j < n → getD v j 0 ≡ 0) → part v m ≡ part v n
 part-over v m n h l k z =
     ext-getD 0 (part v m) (part v n) (part-long v m h (omega arith) ∙ sym (part-long v n h k))
     (λ j g. split (ltb j m)
@@ -75,7 +75,7 @@ part-over v m n h l k z =
     (λ t₁. let a = ltb-false j m t in part-behind v m j (omega arith) a ∙ sym (part-at v n j (omega arith) (ltb-true j n t₁) ∙ z j a (ltb-true j n t₁)))
     (λ t₁. part-behind v m j (omega arith) (ltb-false j m t) ∙ sym (part-behind v n j (omega arith) (ltb-false j n t₁)))))
 
-part-all : (v : List ℕ) → length v ≡ numberCount → part v numberCount ≡ v
+pub part-all : (v : List ℕ) → length v ≡ numberCount → part v numberCount ≡ v
 unfolding part
 part-all v h = append-nil (take numberCount v) ∙ take-all numberCount v (omega arith)
 
@@ -222,11 +222,11 @@ none-read s place n p v l e z x =
     rw (a, b, two, at, same) (stop ∙ end)
 
 -- what a list keeps: as many numbers as there is room for, none of them 0
-record Kept (v : List ℕ) (row : ℕ) : Type 0 where
-  few : getD v (placeOf row) 0 ≤ widthOf row - 1
-  said : (j : ℕ) → placeOf row + 1 ≤ j → j < placeOf row + 1 + getD v (placeOf row) 0 → Sayable plain (getD v j 0)
-  some : 1 ≤ getD v (placeOf row) 0 → 1 ≤ getD v (placeOf row + 1) 0
-  clear : (m : ℕ) → placeOf row + 1 + getD v (placeOf row) 0 ≤ m → m < placeOf row + widthOf row → getD v m 0 ≡ 0
+pub record Kept (v : List ℕ) (row : ℕ) : Type 0 where
+  pub few : getD v (placeOf row) 0 ≤ widthOf row - 1
+  pub said : (j : ℕ) → placeOf row + 1 ≤ j → j < placeOf row + 1 + getD v (placeOf row) 0 → Sayable plain (getD v j 0)
+  pub some : 1 ≤ getD v (placeOf row) 0 → 1 ≤ getD v (placeOf row + 1) 0
+  pub clear : (m : ℕ) → placeOf row + 1 + getD v (placeOf row) 0 ≤ m → m < placeOf row + widthOf row → getD v m 0 ≡ 0
 
 list-line : (s : List ℕ) (row p : ℕ) (v l : List ℕ) → length v ≡ numberCount → placeOf row + widthOf row ≤ numberCount → 2 ≤ widthOf row → Kept v row
     → drop p s ≡ listText (placeOf row) (widthOf row - 1) v ++ 10 ∷ l
@@ -261,9 +261,9 @@ list-line s row p v l hv h wide k e =
 -- ---- a line
 
 -- what a row keeps so that its line says it: each of its numbers can be said in its form, those that it has not are 0, and what a list keeps
-record Told (v : List ℕ) (row : ℕ) : Type 0 where
-  said : (m : ℕ) → placeOf row ≤ m → m < placeOf row + used v row → Sayable (formOf row) (getD v m 0)
-  listed : eqb (formOf row) list ≡ true → Kept v row
+pub record Told (v : List ℕ) (row : ℕ) : Type 0 where
+  pub said : (m : ℕ) → placeOf row ≤ m → m < placeOf row + used v row → Sayable (formOf row) (getD v m 0)
+  pub listed : eqb (formOf row) list ≡ true → Kept v row
 
 values-read : (s : List ℕ) (row p : ℕ) (v l : List ℕ) → length v ≡ numberCount → row < rowCount → Told v row → drop p s ≡ valuesText (formOf row) (placeOf row) (widthOf row) v ++ 10 ∷ l
     → valuesAt s (formOf row) (placeOf row) (widthOf row) p (part v (placeOf row)) ≡ good (p + length (valuesText (formOf row) (placeOf row) (widthOf row) v)) (part v (placeOf row + widthOf row))
@@ -275,7 +275,7 @@ values-read s row p v l hv hr d e =
     let z : placeOf row + 0 ≡ placeOf row = omega arith in
     rw t (rw z at (fields-read s (formOf row) (placeOf row) (widthOf row) 0 p v 10 l hv (omega (arith, place-room row hr)) (λ m g₁ g₂. d .said m (omega arith) (omega (arith, used-all v row t))) (omega arith) (rw t at e))))
 
-line-read : (s : List ℕ) (at row : ℕ) (v l : List ℕ) → length v ≡ numberCount → row < rowCount → Told v row → drop at s ≡ rowText row v ++ l
+pub line-read : (s : List ℕ) (at row : ℕ) (v l : List ℕ) → length v ≡ numberCount → row < rowCount → Told v row → drop at s ≡ rowText row v ++ l
     → lineAt s at row (part v (placeOf row)) ≡ good (at + length (rowText row v)) (part v (placeOf row + widthOf row))
 unfolding lineAt rowText pick
 line-read s at row v l hv hr d e =
@@ -311,7 +311,7 @@ used-range v row j h =
     (λ t. rw t (getD-take (1 + getD v (placeOf row) 0) (rangesOf row) j (0 to 0) (omega (arith, used-list v row t))))
     (λ t. rw t)
 
-ranged : (row : ℕ) (v : List ℕ) (line : ℕ) → rowFault v row line ≡ Fine → (j : ℕ) → j < used v row → Between (rangeOf row j .least) (getD v (placeOf row + j) 0) (rangeOf row j .most)
+pub ranged : (row : ℕ) (v : List ℕ) (line : ℕ) → rowFault v row line ≡ Fine → (j : ℕ) → j < used v row → Between (rangeOf row j .least) (getD v (placeOf row + j) 0) (rangeOf row j .most)
 unfolding rowFault
 ranged row v line f j h = rw (← (used-range v row j h)) (in-each v (placeOf row) (usedRanges v row) (passes _ _ _ (both-fine _ _ f .0)) j h)
 
@@ -359,64 +359,5 @@ list-kept row v line h f t c =
       clear = λ m g i. c m (omega (arith, n)) i;
     }
 
-told : (row : ℕ) (v : List ℕ) (line : ℕ) → row < rowCount → rowFault v row line ≡ Fine → ((m : ℕ) → placeOf row + used v row ≤ m → m < placeOf row + widthOf row → getD v m 0 ≡ 0) → Told v row
+pub told : (row : ℕ) (v : List ℕ) (line : ℕ) → row < rowCount → rowFault v row line ≡ Fine → ((m : ℕ) → placeOf row + used v row ≤ m → m < placeOf row + widthOf row → getD v m 0 ≡ 0) → Told v row
 told row v line h f c = record { said = sayable row v line h f; listed = λ t. list-kept row v line h f t c }
-
--- ---- all lines
-
-place-all : (row : ℕ) → row ≤ rowCount → placeOf row ≤ numberCount
-place-all row h =
-    split (ltb row rowCount) (λ t. omega (arith, place-room row (ltb-true row rowCount t))) (λ t. omega (arith, place-past row (ltb-false row rowCount t)))
-
-end-read : (s : List ℕ) (line at : ℕ) (v : List ℕ) → at ≤ length s → drop at s ≡ [] → endAt s line at v ≡ step Fine (length s) v
-unfolding endAt pick
-end-read s line at v h e =
-    let n : length s - at ≡ 0 = sym (length-drop at s) ∙ ap length e in
-    let q : at ≡ length s = omega arith in
-    rw (eq-eqb at (length s) q) (ap (λ (p : ℕ). step Fine p v) q)
-
--- a row passed over or read
-module _ (s : List ℕ) (row line at : ℕ) (v l : List ℕ) (hv : length v ≡ numberCount) (h : row < rowCount) (e : drop at s ≡ hereText row v ++ l) where
-  same : present (part v (placeOf row)) row ≡ present v row
-  same = present-below row v (part v (placeOf row)) h (λ m g. part-at v (placeOf row) m (omega (arith, place-room row h)) g)
-
-  read-present : ClearAt v row → present v row ≡ true → rowFault v row line ≡ Fine → hereAt s at row line (part v (placeOf row)) ≡ step Fine (at + length (hereText row v)) (part v (placeOf (row + 1)))
-  unfolding hereAt judgedAt hereText pick
-  read-present c a f =
-      let e′ : drop at s ≡ rowText row v ++ l = rw a at e in
-      let n = place-next row in
-      let r = line-read s at row v l hv h (told row v line h f (λ m i j. c m (omega (arith, held-here v row a)) j)) e′ in
-      let g : rowFault (part v (placeOf row + widthOf row)) row line ≡ Fine = fault-below row line v (part v (placeOf row + widthOf row)) h (part-long v (placeOf row + widthOf row) hv (place-room row h) ∙ sym hv) (λ m b. part-at v (placeOf row + widthOf row) m (omega (arith, place-room row h)) b) ∙ f in
-      rw (same, a, r, g, n)
-
-  read-absent : ClearAt v row → present v row ≡ false → hereAt s at row line (part v (placeOf row)) ≡ step Fine (at + length (hereText row v)) (part v (placeOf (row + 1)))
-  unfolding hereAt hereText pick
-  read-absent c a =
-      let z : at + 0 ≡ at = omega arith in
-      let n = place-next row in
-      let p : part v (placeOf row) ≡ part v (placeOf row + widthOf row) = part-over v (placeOf row) (placeOf row + widthOf row) hv (omega arith) (place-room row h) (λ m i j. c m (omega (arith, held-none v row a)) j) in
-      rw (same, a, n, z) (ap (λ (x : List ℕ). step Fine at x) p)
-
-  read-here : ClearAt v row → hereFault v row line ≡ Fine → hereAt s at row line (part v (placeOf row)) ≡ step Fine (at + length (hereText row v)) (part v (placeOf (row + 1)))
-  unfolding hereFault pick
-  read-here c f = split (present v row) (λ a. read-present c a (rw a at f)) (λ a. read-absent c a)
-
-lines-read : (s : List ℕ) (n row line at : ℕ) (v : List ℕ) → n + row ≡ rowCount → length v ≡ numberCount → Clear 0 v → faultFrom v n row line ≡ Fine → at ≤ length s
-    → drop at s ≡ textFrom v n row → linesFrom s n row line at (part v (placeOf row)) ≡ step Fine (length s) v
-unfolding linesFrom faultFrom textFrom lineAfter pick
-lines-read s zero row line at v n hv c f h e =
-    let q : placeOf row ≡ numberCount = place-past row (omega arith) in
-    rw (q, part-all v hv) (end-read s line at v h e)
-lines-read s (suc k) row line at v n hv c f h e =
-    let hr : row < rowCount = omega arith in
-    let t = hereText row v in
-    let both = both-fine _ _ f in
-    let r = read-here s row line at v (textFrom v k (row + 1)) hv hr e (c row (omega arith) hr) (both .0) in
-    let ln : length s - at ≡ length t + length (textFrom v k (row + 1)) = sym (length-drop at s) ∙ ap length e ∙ length-append t (textFrom v k (row + 1)) in
-    let ih = lines-read s k (row + 1) (lineAfter v row line) (at + length t) v (omega arith) hv c (both .1) (omega arith) (past s at t (textFrom v k (row + 1)) e) in
-    rw (r, same s row line at v (textFrom v k (row + 1)) hv hr e) ih
-
--- the text of numbers without a fault, 0 in the rows that they have not, is read as those numbers
-pub text-read : (v : List ℕ) → length v ≡ numberCount → Clear 0 v → faultFrom v rowCount 0 1 ≡ Fine → linesOf (textFrom v rowCount 0) ≡ step Fine (length (textFrom v rowCount 0)) v
-unfolding part placeOf
-text-read v hv c f = lines-read (textFrom v rowCount 0) rowCount 0 1 0 v refl hv c f (omega arith) refl

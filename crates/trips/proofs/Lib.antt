@@ -3,8 +3,13 @@ pub mod Figures
 pub mod Fields
 pub mod Agree
 pub mod Back
+pub mod Absent
 pub mod Forth
 pub mod Kept
 pub mod Trimmed
+pub mod Again
+pub mod Whole
 pub mod Promised
+pub mod Converted
 pub mod Prefix
+pub mod Fits

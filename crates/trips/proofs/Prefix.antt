@@ -2,7 +2,7 @@
 use Prim.Native.Nat.{ℕ, zero, suc, _+_, _-_, _*_, _≤_, _<_}
 use mathlib.Core.Path.{_≡_, refl, sym, ap, _∙_}
 use mathlib.Core.List.{List, [], _∷_}
-use mathlib.Core.Bool.{true, false}
+use mathlib.Core.Bool.{Bool, true, false}
 use native.Mathlib.Omega.{arith}
 use lib.ListN.{length, drop, take, set, replicate}
 use lib.Seq.{take-nil, drop-nil, length-take-le}
@@ -14,17 +14,17 @@ use Rattle.sheet.specs.Refusals.{isFine, orElse}
 use Rattle.rows.specs.Table.{rowCount, numberCount, bytes, worded, signed, list, keyOf, formOf, placeOf, widthOf, present}
 use Rattle.rows.specs.Marks.{markOf, minus, lineFeed, wordOf}
 use Rattle.numbers.specs.Flat.{sheetOf}
-use Rattle.faults.specs.Lines.{lineAfter}
 use Rattle.faults.specs.Whole.{wholeFault}
 use Rattle.text.specs.Line.{Taken}
 use Rattle.text.specs.Read.{Step}
 use Rattle.figures.specs.Figures.{digitOf, more, number, after, numberAt, afterAt, signedAt}
 use Rattle.text.specs.Line.{wordAt, fieldAt, good, fields, listFields, valuesAt, ended, lineAt}
-use Rattle.text.specs.Read.{judgedAt, endAt, onStep, hereAt, linesFrom, reply, readOf}
+use Rattle.text.specs.Read.{judgedAt, endAt, onStep, begins, passed, hereAt, linesFrom, reply, readBy, mayLack}
 use Rattle.rows.specs.Longest.{longestField, longestFields, mostFields, longestRow, longestFrom, longest}
 use Rattle.text.proofs.Cases.{byPlace, byFigure}
 use Rattle.text.proofs.Lengths.{short-digits, short-word, short-field, mark-long, most-list, most-all}
 use Rattle.trips.specs.Promises.{CutIsSame}
+use Rattle.trips.specs.Older.{OlderCutIsSame}
 use Rattle.trips.proofs.Figures.{after-back, number-back}
 use Rattle.trips.proofs.Fields.{field-back}
 
@@ -199,12 +199,12 @@ line-near s at row v g =
     let r = ended-near s t (p + longestFields (formOf row) (mostFields row)) (values-near s row p v) (rw a at g) in
     rw a (omega arith))
 
-here-near : (s : List ℕ) (at row line : ℕ) (v : List ℕ) → isFine (hereAt s at row line v .answer) ≡ true → hereAt s at row line v .next ≤ at + longestRow row
+here-near : (may : ℕ → Bool) (s : List ℕ) (at row line : ℕ) (v : List ℕ) → isFine (hereAt may s at row line v .answer) ≡ true → hereAt may s at row line v .next ≤ at + longestRow row
 unfolding hereAt judgedAt pick
-here-near s at row line v f =
-    split (present v row)
-    (λ a. split (lineAt s at row v .good) (λ g. rw (a, g) (line-near s at row v g)) (λ g. never (rw (a, g) at f)))
+here-near may s at row line v f =
+    split (passed may s at row v)
     (λ a. rw a (omega arith))
+    (λ a. split (lineAt s at row v .good) (λ g. rw (a, g) (line-near s at row v g)) (λ g. never (rw (a, g) at f)))
 
 -- ---- all lines
 
@@ -228,27 +228,47 @@ module _ (s : List ℕ) (n : ℕ) where
       rw (word-at s n at (keyOf row) (omega arith), a, values-at s n row p v (omega arith))
       (ended-at (valuesAt s (formOf row) (placeOf row) (widthOf row) p v) (λ g. omega (arith, near g))))
 
-  here-at : (at row line : ℕ) (v : List ℕ) → at + longestRow row ≤ n → hereAt (take n s) at row line v ≡ hereAt s at row line v
-  unfolding hereAt judgedAt
-  here-at at row line v h = rw (line-at at row v h)
+  begins-at : (at row : ℕ) → at + longestRow row ≤ n → begins (take n s) at row ≡ begins s at row
+  unfolding begins
+  begins-at at row h =
+      byPlace (afterAt s at (keyOf row))
+      (λ a. rw (word-at s n at (keyOf row) (omega arith), a))
+      (λ p a.
+      let e = after-back s at p (keyOf row) a .place in
+      rw (word-at s n at (keyOf row) (omega arith), a, word-at s n p (markOf 0) (omega (arith, mark-long 0))))
+
+  here-at : (may : ℕ → Bool) (at row line : ℕ) (v : List ℕ) → at + longestRow row ≤ n → hereAt may (take n s) at row line v ≡ hereAt may s at row line v
+  unfolding hereAt judgedAt passed
+  here-at may at row line v h = rw (line-at at row v h, begins-at at row h)
+
+  passed-at : (may : ℕ → Bool) (at row : ℕ) (v : List ℕ) → at + longestRow row ≤ n → passed may (take n s) at row v ≡ passed may s at row v
+  unfolding passed
+  passed-at may at row v h = rw (begins-at at row h)
 
   end-at : (line at : ℕ) (v : List ℕ) → at < n → n ≤ length s → endAt (take n s) line at v ≡ endAt s line at v
   unfolding endAt pick
   end-at line at v h l =
       rw (length-take-le n s l, ne-eqb at n (λ e. omega arith), ne-eqb at (length s) (λ e. omega arith))
 
-  lines-at : (k row line at : ℕ) (v : List ℕ) → at + longestFrom k row < n → n ≤ length s → linesFrom (take n s) k row line at v ≡ linesFrom s k row line at v
+  lines-at : (may : ℕ → Bool) (k row line at : ℕ) (v : List ℕ) → at + longestFrom k row < n → n ≤ length s → linesFrom may (take n s) k row line at v ≡ linesFrom may s k row line at v
   unfolding linesFrom longestFrom
-  lines-at zero row line at v h l = end-at line at v (omega arith) l
-  lines-at (suc k) row line at v h l =
-      let near = here-near s at row line v in
-      let t = hereAt s at row line v in
-      rw (here-at at row line v (omega arith))
-      (onward t (λ p w. linesFrom (take n s) k (row + 1) (lineAfter v row line) p w) (λ p w. linesFrom s k (row + 1) (lineAfter v row line) p w)
-      (λ f. lines-at k (row + 1) (lineAfter v row line) (t .next) (t .numbers) (omega (arith, near f)) l))
+  lines-at may zero row line at v h l = end-at line at v (omega arith) l
+  lines-at may (suc k) row line at v h l =
+      let near = here-near may s at row line v in
+      let t = hereAt may s at row line v in
+      let later = pick (passed may s at row v) line (line + 1) in
+      rw (here-at may at row line v (omega arith), passed-at may at row v (omega arith))
+      (onward t (λ p w. linesFrom may (take n s) k (row + 1) later p w) (λ p w. linesFrom may s k (row + 1) later p w)
+      (λ f. lines-at may k (row + 1) later (t .next) (t .numbers) (omega (arith, near f)) l))
+
+read-cut : (may : ℕ → Bool) (t : List ℕ) → longest < length t → readBy may (take (longest + 1) t) ≡ readBy may t
+unfolding readBy
+read-cut may t h =
+    let e = lines-at t (longest + 1) may rowCount 0 1 0 (replicate numberCount 0) (omega arith) (omega arith) in
+    ap (λ (x : Step). reply (orElse (x .answer) (wholeFault (sheetOf (x .numbers)))) (sheetOf (x .numbers))) e
 
 pub cut-is-same : CutIsSame
-unfolding readOf
-cut-is-same t h =
-    let e = lines-at t (longest + 1) rowCount 0 1 0 (replicate numberCount 0) (omega arith) (omega arith) in
-    ap (λ (x : Step). reply (orElse (x .answer) (wholeFault (sheetOf (x .numbers)))) (sheetOf (x .numbers))) e
+cut-is-same t h = read-cut (mayLack false) t h
+
+pub older-cut-is-same : OlderCutIsSame
+older-cut-is-same t h = read-cut (mayLack true) t h

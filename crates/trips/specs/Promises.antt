@@ -29,6 +29,7 @@ withEntries s phases dwell points =
       issue = s .issue;
       vehicle = s .vehicle;
       grade = s .grade;
+      grade2 = s .grade2;
       l01 = s .l01;
       l02 = s .l02;
       «phase_count» = s .«phase_count»;
