@@ -7,7 +7,7 @@ import reference
 import sequence_reference
 
 here = os.path.dirname(os.path.abspath(__file__))
-paper = open(os.path.join(here, '..', 'sheets', 'paper.sheet')).read()
+paper, levels_out = (open(os.path.join(here, '..', 'sheets', name + '.sheet')).read() for name in ('paper', 'levels_out'))
 
 
 def sheet(issue, text=paper):
@@ -23,6 +23,10 @@ short = sheet(300).replace('phases=2\n', 'phases=2\nphase=1,20,0,30,0,60,35,2\n'
 
 # phase 2 has no pedestrians, phase 4 has: both are named
 named = sheet(301).replace('dwell=0', 'dwell=2,4')
+
+# no advance preemption: the acceleration times decide how long the clearance green is. Up to the rails and level past them, or the other way round
+up_to = sheet(302, levels_out)
+beyond = sheet(303).replace('grade2=0', 'grade2=80').replace('l33=270', 'l33=0').replace('l39=150', 'l39=0')
 
 RUN = [
     # the call met in track green: green at tick 2, over at tick 492
@@ -68,6 +72,9 @@ RUN = [
     'ticks=1,300', 'ticks=1,700',
     # the call off in all red, on the tick on which a phase is started there
     'tick=0,2', 'ticks=0,200',
+    # two grades: line 51 is by line 25, and then by line 50; a sheet without the second grade, and one with it out of range
+    load(up_to).rstrip('\n'), 'ticks=1,400', 'tick=0', load(beyond).rstrip('\n'), 'ticks=1,500', 'tick=0',
+    load(sheet(304).replace('grade2=0\n', '')).rstrip('\n'), load(sheet(304).replace('grade2=0', 'grade2=81')).rstrip('\n'),
     load(sheet(65535)).rstrip('\n'), load(sheet(65535)).rstrip('\n'), load(sheet(1)).rstrip('\n'),
     'tick=2',
 ]
@@ -108,6 +115,10 @@ def main():
     # a phase started on the tick on which the call is off is ended by the ordinary rules: 50 + 40 + 15 ticks
     last = next(i for i, l in enumerate(at) if i > off and l[1] == 'dwell-green')
     assert at[last - 1][1] == 'dwell' and at[last + 3][1] == 'track-green' and int(at[last + 3][0]) - int(at[last][0]) == 105, at[last:last + 4]
+    # line 25 is 71 + 221, up to 300; line 50 is 71 + 294, up to 370
+    greens = [int(at[i + 1][0]) - int(l[0]) for i, l in enumerate(at[:-1]) if l[1] == 'clearance-green']
+    assert greens[-2:] == [300, 370], greens
+    assert ('1', '4') in [l[4:] for l in at] and ('2', '4') in [l[4:] for l in at]
     assert lines[-2] == 'refused=1,%d' % text.count(b'\n'), lines[-2]
     folder = os.path.join(here, '..', 'crates', 'sequence')
     with open(os.path.join(folder, 'stdin'), 'wb') as f:

@@ -10,12 +10,12 @@ import sequence_reference
 
 here = os.path.dirname(os.path.abspath(__file__))
 paper = open(os.path.join(here, '..', 'sheets', 'paper.sheet'), 'rb').read()
-# a longer track interval, a grade below 1 percent, a third phase, which has other green and mode 2, and two phases named for dwell
-SITE = paper.replace(b'grade=0', b'grade=5').replace(b'phases=2', b'phases=3').replace(b'track=40,20', b'phase=6,30,12,30,10,20,60,2\ntrack=60,55').replace(b'dwell=0', b'dwell=2,6')
-VEHICLES = ['car', 'su', 'bus', 'wb50']
-KEYS = ['l18', 'l19', 'l20', 'l28', 'l30', 'l31', 'l33', 'l37', 'l39', 'l47', 'l56', 'l57', 'l58']
-PLACE = dict([('issue', 0), ('vehicle', 1), ('grade', 2), ('l01', 3), ('l02', 4), ('phases', 5), ('yellow', 70), ('red', 71), ('named', 72), ('points', 94)]
-             + [(k, 81 + i) for i, k in enumerate(KEYS)])
+# a longer track interval, grades below 1 percent, a third phase, which has other green and mode 2, and two phases named for dwell
+SITE = paper.replace(b'grade=0', b'grade=5').replace(b'grade2=0', b'grade2=-7').replace(b'phases=2', b'phases=3').replace(b'track=40,20', b'phase=6,30,12,30,10,20,60,2\ntrack=60,55').replace(b'dwell=0', b'dwell=2,6')
+# where each number stands, in the order of the text: 8 phases, 8 phases named for dwell and 16 points, the grades 1,000,000 more, the vehicle as its place
+HEAD, MIDDLE = reference.HEAD, reference.MIDDLE
+TRACK = len(HEAD) + 8 * 8
+PLACE = dict([(k, i) for i, k in enumerate(HEAD)] + [('yellow', TRACK), ('red', TRACK + 1), ('named', TRACK + 2)] + [(k, TRACK + 11 + i) for i, k in enumerate(MIDDLE)])
 OF_PHASE = ['number', 'green', 'other', 'yellow', 'red', 'walk', 'clearance', 'mode']
 STAGES = ['track-green', 'track-yellow', 'track-red', 'open', 'ending', 'clearance-green', 'clearance-yellow', 'clearance-red', 'dwell', 'dwell-open', 'dwell-ending']
 # a stage's kind and place as numbers; 9 is no stage: a start
@@ -28,7 +28,7 @@ WALKERS = ['walk', 'clearance']
 
 
 def of_phase(i, name):
-    return 6 + 8 * i + OF_PHASE.index(name)
+    return len(HEAD) + 8 * i + OF_PHASE.index(name)
 
 
 def of_dwell(i):
@@ -39,11 +39,11 @@ def of_point(i, name):
     return PLACE['points'] + 1 + 2 * i + ['feet', 'tenths'].index(name)
 
 
-# ---- a sheet as its numbers: in the order of its text, 8 phases, 8 phases named for dwell and 16 points, the grade 1,000,000 more, the vehicle as its place
+# ---- a sheet as its numbers
 def numbers_of(s):
-    flat = [s['issue'], VEHICLES.index(s['vehicle']), s['grade'] + 1000000, s['l01'], s['l02'], s['phases']]
-    flat += sum(s['phase'], []) + [0] * (8 * (8 - len(s['phase']))) + s['track']
-    flat += [len(s['dwell'])] + s['dwell'] + [0] * (8 - len(s['dwell'])) + [s[k] for k in KEYS] + [s['points']]
+    kept = dict(s, vehicle=reference.VEHICLES.index(s['vehicle']), **{k: s[k] + 1000000 for k in reference.SIGNED})
+    flat = [kept[k] for k in HEAD] + sum(s['phase'], []) + [0] * (8 * (8 - len(s['phase']))) + s['track']
+    flat += [len(s['dwell'])] + s['dwell'] + [0] * (8 - len(s['dwell'])) + [kept[k] for k in MIDDLE]
     return flat + sum(s['point'], []) + [0] * (2 * (16 - len(s['point'])))
 
 
@@ -51,20 +51,22 @@ def dwell_of(n):
     """the dwell line of the values. Two of them have no text, more than eight numbers and one that is 0: out of range all the same, as a 9 is"""
     count = n[PLACE['named']]
     named = n[of_dwell(0):of_dwell(min(count, 8))]
-    return '9' if count > 8 or named == [0] else ','.join(map(str, named)) or '0'
+    return [9] if count > 8 or named == [0] else named
 
 
 def text_of(n):
     """the text that the values would make; a count out of range ends it"""
-    lines = ['issue=%d' % n[0], 'vehicle=' + VEHICLES[n[1]], 'grade=%d' % (n[2] - 1000000), 'l01=%d' % n[3], 'l02=%d' % n[4], 'phases=%d' % n[5]]
-    lines += ['phase=' + ','.join(map(str, n[6 + 8 * i:14 + 8 * i])) for i in range(min(n[5], 8))]
-    lines += ['track=%d,%d' % (n[70], n[71]), 'dwell=' + dwell_of(n)] + ['%s=%d' % (k, n[PLACE[k]]) for k in KEYS] + ['points=%d' % n[94]]
-    lines += ['point=%d,%d' % tuple(n[95 + 2 * i:97 + 2 * i]) for i in range(min(n[94], 16))]
-    return ('\n'.join(lines) + '\n').encode()
+    s = {k: n[PLACE[k]] for k in HEAD + MIDDLE}
+    s.update(vehicle=reference.VEHICLES[s['vehicle']], **{k: s[k] - 1000000 for k in reference.SIGNED})
+    s['phase'] = [n[of_phase(i, 'number'):of_phase(i + 1, 'number')] for i in range(min(s['phases'], 8))]
+    s['track'], s['dwell'] = n[PLACE['yellow']:PLACE['named']], dwell_of(n)
+    s['point'] = [n[of_point(i, 'feet'):of_point(i + 1, 'feet')] for i in range(min(s['points'], 16))]
+    return reference.written(s).encode()
 
 
 SITE_NUMBERS = numbers_of(reference.read(SITE))
-ZERO_NUMBERS = [0, 0, 1000000] + [0] * 124
+assert text_of(SITE_NUMBERS) == SITE
+ZERO_NUMBERS = [1000000 if k in reference.SIGNED else 0 for k in HEAD] + [0] * (len(SITE_NUMBERS) - len(HEAD))
 
 
 def changed(place, value):
@@ -343,6 +345,8 @@ CASES = [
     fit('leaving, over, a phase asked', 'dwell-ending', 'track-yellow 0 next 4 count 0', phase=6, leaving=True, light='red', spent=9, walker='clearance', steps=59, count=2, call=1, command=4),
     # the sheet held
     unfit('held sheet refused 2', 'track-green', held=(PLACE['l02'], 0)),
+    unfit('held sheet refused 2, second grade 81', 'track-green', held=(PLACE['grade2'], 1000081)),
+    fit('held sheet with second grade 80, line 51 as before', 'clearance-green', 'clearance-yellow 0 count 2', held=(PLACE['grade2'], 1000080), spent=489, count=2),
     unfit('held sheet refused 7', 'dwell', held=(PLACE['l47'], 61), count=2),
     unfit('held sheet refused 10', 'open', held=(PLACE['phases'], 1), phase=2),
     unfit('held sheet refused 12', 'dwell', held=(of_dwell(1), 7), count=2),
@@ -351,13 +355,14 @@ CASES = [
 
 # a sheet with one number changed, and its own refusal: 2 to 6 in the sheet's order, with the line in the text it would make; then 7 to 10 and 12
 FAULTS = [
-    ('grade 81', PLACE['grade'], 1000081, 2, 3), ('l02 of 0', PLACE['l02'], 0, 2, 5), ('no phase', PLACE['phases'], 0, 2, 6), ('nine phases', PLACE['phases'], 9, 2, 6),
-    ('phase 9', of_phase(2, 'number'), 9, 2, 9), ('phase 2 twice', of_phase(1, 'number'), 2, 3, 8), ('walk in mode 0', of_phase(0, 'walk'), 1, 5, 7),
-    ('mode 2, clearance 39', of_phase(2, 'clearance'), 39, 6, 9), ('track yellow 29', PLACE['yellow'], 29, 2, 10), ('l30 of 199', PLACE['l30'], 199, 2, 16),
-    ('nine dwell phases', PLACE['named'], 9, 2, 11), ('dwell phase 0', of_dwell(0), 0, 2, 11), ('dwell phase 9', of_dwell(1), 9, 2, 11), ('three dwell phases, the last 0', PLACE['named'], 3, 2, 11),
-    ('the same dwell phase twice', of_dwell(1), 2, 3, 11), ('dwell phases that fall', of_dwell(1), 1, 3, 11),
-    ('one point', PLACE['points'], 1, 2, 25), ('seventeen points', PLACE['points'], 17, 2, 25), ('first point 0,1', of_point(0, 'tenths'), 1, 4, 26),
-    ('distances that stay', of_point(2, 'feet'), 100, 4, 28), ('times that fall', of_point(2, 'tenths'), 139, 4, 28),
+    ('grade 81', PLACE['grade'], 1000081, 2, 3), ('grade2 81', PLACE['grade2'], 1000081, 2, 4), ('grade2 -81', PLACE['grade2'], 999919, 2, 4),
+    ('l02 of 0', PLACE['l02'], 0, 2, 6), ('no phase', PLACE['phases'], 0, 2, 7), ('nine phases', PLACE['phases'], 9, 2, 7),
+    ('phase 9', of_phase(2, 'number'), 9, 2, 10), ('phase 2 twice', of_phase(1, 'number'), 2, 3, 9), ('walk in mode 0', of_phase(0, 'walk'), 1, 5, 8),
+    ('mode 2, clearance 39', of_phase(2, 'clearance'), 39, 6, 10), ('track yellow 29', PLACE['yellow'], 29, 2, 11), ('l30 of 199', PLACE['l30'], 199, 2, 17),
+    ('nine dwell phases', PLACE['named'], 9, 2, 12), ('dwell phase 0', of_dwell(0), 0, 2, 12), ('dwell phase 9', of_dwell(1), 9, 2, 12), ('three dwell phases, the last 0', PLACE['named'], 3, 2, 12),
+    ('the same dwell phase twice', of_dwell(1), 2, 3, 12), ('dwell phases that fall', of_dwell(1), 1, 3, 12),
+    ('one point', PLACE['points'], 1, 2, 26), ('seventeen points', PLACE['points'], 17, 2, 26), ('first point 0,1', of_point(0, 'tenths'), 1, 4, 27),
+    ('distances that stay', of_point(2, 'feet'), 100, 4, 29), ('times that fall', of_point(2, 'tenths'), 139, 4, 29),
     ('l47 above l18', PLACE['l47'], 61, 7, 0), ('l31 of 9', PLACE['l31'], 9, 8, 0), ('line 48 beyond the last point', of_point(2, 'feet'), 155, 9, 0),
     ('track above line 16', PLACE['phases'], 1, 10, 0), ('dwell phase not listed', of_dwell(1), 7, 12, 0), ('the first dwell phase not listed', of_dwell(0), 1, 12, 0),
 ]
@@ -369,7 +374,7 @@ LOADS = [
     Case('20 before 2', 'open', '20', UNFIT, phase=3, offered=(PLACE['l02'], 0)),
     Case('20 before 21 and 22', 'ending', '20', UNFIT, phase=4, next=9, issue=12),
     Case('7 before 21', 'dwell', '0,0 dwell count 2', (7, 0), count=2, call=1, offered=SEVEN),
-    Case('2 before 21', 'track-yellow', '0,0 track-yellow 6 next 4 count 0', (2, 5), spent=5, next=4, offered=(PLACE['l02'], 0)),
+    Case('2 before 21', 'track-yellow', '0,0 track-yellow 6 next 4 count 0', (2, 6), spent=5, next=4, offered=(PLACE['l02'], 0)),
     Case('7 before 22', 'track-green', '0,0 track-green count 0', (7, 0), issue=11, offered=SEVEN),
     Case('2 before 22', 'track-green', '0,0 track-green count 0', (2, 1), issue=0),
     Case('21 before 22', 'dwell', '0,0 dwell count 2', (21, 0), count=2, call=1, issue=12),
@@ -382,6 +387,8 @@ LOADS = [
     Case('the last issue', 'track-green', '0,0 track-green count 0', (0, 0), issue=65535),
     Case('on the last issue', 'track-green', '0,0 track-green count 0', (22, 0), held=(0, 65535), issue=65535),
     Case('another sheet', 'track-green', '0,0 track-green count 0', (0, 0), offered=(PLACE['l39'], 100)),
+    Case('second grade 80', 'track-green', '0,0 track-green count 0', (0, 0), offered=(PLACE['grade2'], 1000080)),
+    Case('second grade -80', 'track-green', '0,0 track-green count 0', (0, 0), offered=(PLACE['grade2'], 999920)),
     Case('no dwell phase', 'track-green', '0,0 track-green count 0', (0, 0), offered=(PLACE['named'], 0)),
     Case('an entry past the count of dwell phases', 'track-green', '0,0 track-green count 0', (0, 0), offered=(of_dwell(7), 99)),
     Case('21 in a phase run in dwell', 'dwell-open', '0,0 dwell phase 6 green 1 walk 1 count 2', (21, 0), phase=6, count=2, call=1),

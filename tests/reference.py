@@ -1,8 +1,11 @@
-"""A second implementation of the paper, plain and apart from the proved code: the site sheet, its refusals, the 61 lines.
+"""A second implementation of the paper, plain and apart from the proved code: the site sheet, its refusals, the 61 lines, and older forms of the sheet.
 
 It is written from the paper's sentences with Python's own numbers and fractions and shares nothing with crates/.
 The expected outputs under crates/*/stdout and sheets/ come from it and from the paper's printed values;
-tests/compare runs the built programs against it on many sheets, good and damaged.
+tests/compare and compare_convert run the built programs against it on many sheets, good and damaged.
+
+    tests/reference.py < SHEET             prints what the program `worksheet` must print
+    tests/reference.py convert < SHEET     prints what the program `convert` must print
 """
 from fractions import Fraction
 from math import ceil, floor
@@ -61,13 +64,18 @@ def level(points, feet):
     return points[-1][1]
 
 
-def acceleration(sheet, feet):
-    return ceil(level(sheet['point'], feet) * factor(sheet['vehicle'], sheet['grade'], feet))
+def acceleration(sheet, grade, feet):
+    return ceil(level(sheet['point'], feet) * factor(sheet['vehicle'], grade, feet))
 
 
+HEAD = ('issue', 'vehicle', 'grade', 'grade2', 'l01', 'l02', 'phases')
+MIDDLE = ('l18', 'l19', 'l20', 'l28', 'l30', 'l31', 'l33', 'l37', 'l39', 'l47', 'l56', 'l57', 'l58', 'points')
+VEHICLES = ('car', 'su', 'bus', 'wb50')
+SIGNED = ('grade', 'grade2')
 SINGLE = {'l01': (0, 999), 'l02': (1, 999), 'phases': (1, 8), 'l18': (0, 400), 'l19': (1, 400), 'l20': (1, 150), 'l28': (0, 999),
           'l30': (200, 999), 'l31': (0, 999), 'l33': (0, 999), 'l37': (100, 999), 'l39': (0, 999), 'l47': (0, 400),
-          'l56': (30, 999), 'l57': (1, 999), 'l58': (0, 100), 'points': (2, 16), 'issue': (1, 65535), 'grade': (-80, 80)}
+          'l56': (30, 999), 'l57': (1, 999), 'l58': (0, 100), 'points': (2, 16), 'issue': (1, 65535), 'grade': (-80, 80),
+          'grade2': (-80, 80)}
 MOST_PHASES = 8
 PHASE = [(1, MOST_PHASES), (0, 999), (0, 999), (30, 60), (0, 60), (0, 999), (0, 999), (0, 2)]
 
@@ -89,7 +97,8 @@ def lines_of(text):
     return [(p, True) for p in parts[:-1]] + ([(parts[-1], False)] if parts[-1] else [])
 
 
-def read(text):
+def read(text, older=False):
+    """the sheet of a text; older: of one in which `grade2` and `dwell` may be absent, each in its own place"""
     got, at, sheet = lines_of(text), [0], {'phase': [], 'point': []}
 
     def take(key, parse, check):
@@ -108,9 +117,16 @@ def read(text):
             raise Refused(fault, line)
         return value
 
+    def absent(key):
+        """'where the line there does not begin with `grade2=` (`dwell=`), it is absent'"""
+        return older and not (at[0] < len(got) and got[at[0]][0].startswith(key + b'='))
+
     def single(key):
         lo, hi = SINGLE[key]
-        sheet[key] = take(key.encode(), lambda t: number(t, key == 'grade'), lambda v: 0 if lo <= v <= hi else 2)
+        sheet[key] = take(key.encode(), lambda t: number(t, key in SIGNED), lambda v: 0 if lo <= v <= hi else 2)
+
+    def vehicle(t):
+        return t.decode('latin-1') if t in [v.encode() for v in VEHICLES] else None
 
     def many(count):
         def parse(t):
@@ -152,16 +168,19 @@ def read(text):
         q = sheet['point'][-1]
         return 4 if p[0] <= q[0] or p[1] < q[1] else 0
 
-    single('issue')
-    sheet['vehicle'] = take(b'vehicle', lambda t: t.decode('latin-1') if t in (b'car', b'su', b'bus', b'wb50') else None, lambda v: 0)
-    for key in ('grade', 'l01', 'l02', 'phases'):
-        single(key)
+    for key in HEAD:
+        if key == 'vehicle':
+            sheet['vehicle'] = take(b'vehicle', vehicle, lambda v: 0)
+        elif key == 'grade2' and absent(b'grade2'):
+            sheet['grade2'] = sheet['grade']
+        else:
+            single(key)
     for _ in range(sheet['phases']):
         sheet['phase'].append(take(b'phase', many(8), phase_fault))
     sheet['track'] = take(b'track', many(2), lambda p: 0 if 30 <= p[0] <= 60 and 0 <= p[1] <= 60 else 2)
-    dwell = take(b'dwell', listed, dwell_fault)
+    dwell = [0] if absent(b'dwell') else take(b'dwell', listed, dwell_fault)
     sheet['dwell'] = [] if dwell == [0] else dwell
-    for key in ('l18', 'l19', 'l20', 'l28', 'l30', 'l31', 'l33', 'l37', 'l39', 'l47', 'l56', 'l57', 'l58', 'points'):
+    for key in MIDDLE:
         single(key)
     for _ in range(sheet['points']):
         sheet['point'].append(take(b'point', many(2), point_fault))
@@ -178,6 +197,16 @@ def read(text):
     if any(n not in [p[0] for p in sheet['phase']] for n in sheet['dwell']):
         raise Refused(12, 0)
     return sheet
+
+
+def written(sheet):
+    """the text of a sheet, in today's form"""
+    def row(key, values):
+        return '%s=%s' % (key, ','.join(map(str, values)))
+    lines = [row(k, [sheet[k]]) for k in HEAD] + [row('phase', p) for p in sheet['phase']]
+    lines += [row('track', sheet['track']), row('dwell', sheet['dwell'] or [0])]
+    lines += [row(k, [sheet[k]]) for k in MIDDLE] + [row('point', p) for p in sheet['point']]
+    return '\n'.join(lines) + '\n'
 
 
 def worst(sheet):
@@ -210,7 +239,7 @@ def worksheet(s):
     L[21] = L[18] + L[19]
     L[22] = 20 + ceil(Fraction(L[21], 2))
     L[23] = L[19] + L[20]
-    L[24] = acceleration(s, L[23])
+    L[24] = acceleration(s, s['grade'], L[23])
     L[25] = L[22] + L[24]
     L[26], L[27] = L[17], L[25]
     L[29] = L[17] + L[25] + L[28]
@@ -225,11 +254,11 @@ def worksheet(s):
     L[44] = max(L[40] - L[43], 0)
     L[45], L[46] = L[22], L[23]
     L[48] = L[46] + L[47]
-    L[49] = acceleration(s, L[48])
+    L[49] = acceleration(s, s['grade2'], L[48])
     L[50] = L[45] + L[49]
     L[51] = 10 * ceil(Fraction(max(L[44], L[50], L[25]), 10))
     L[52], L[53] = L[17], L[22]
-    L[54] = acceleration(s, L[20])
+    L[54] = acceleration(s, s['grade'], L[20])
     L[55] = L[52] + L[53] + L[54]
     L[59] = floor(Fraction(L[57] * L[58], 100))
     L[60] = L[56] + L[59]
@@ -237,15 +266,24 @@ def worksheet(s):
     return [L[n] for n in range(1, 62)]
 
 
-def report(text):
-    """what the program `worksheet` prints for a text"""
+def or_refusal(text, older, shown):
     try:
-        s = read(text)
+        return shown(read(text, older))
     except Refused as r:
         return 'refused=%d,%d\n' % (r.number, r.line)
-    return 'issue=%d\n' % s['issue'] + ''.join('L%02d=%d\n' % (i + 1, v) for i, v in enumerate(worksheet(s)))
+
+
+def report(text):
+    """what the program `worksheet` prints for a text"""
+    return or_refusal(text, False, lambda s: 'issue=%d\n' % s['issue'] + ''.join('L%02d=%d\n' % (i + 1, v) for i, v in enumerate(worksheet(s))))
+
+
+def converted(text):
+    """what the program `convert` prints for a text"""
+    return or_refusal(text, True, written)
 
 
 if __name__ == '__main__':
     import sys
-    sys.stdout.write(report(sys.stdin.buffer.read()))
+    program = converted if sys.argv[1:] == ['convert'] else report
+    sys.stdout.write(program(sys.stdin.buffer.read()))

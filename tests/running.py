@@ -27,7 +27,20 @@ def outputs(program, texts):
             yield from zip(texts[i:i + 100], pool.map(run, texts[i:i + 100]))
 
 
-def sheets():
-    """the sample sheets"""
-    folder = os.path.join(here, '..', 'sheets')
-    return [open(os.path.join(folder, n), 'rb').read() for n in sorted(os.listdir(folder)) if n.endswith('.sheet')]
+def agree(program, texts, expected):
+    """the program prints what is expected of each text; how often each reply came is printed, so that a reader sees that the texts reached it"""
+    seen = {}
+    for t, got in outputs(program, texts):
+        want = expected(t)
+        if want != got:
+            sys.exit('differs on %r\nwanted %s\ngot %s' % (t, want, got))
+        first = want.split('\n')[0]
+        key = first.split(',')[0] if first.startswith('refused') else 'accepted'
+        seen[key] = seen.get(key, 0) + 1
+    print(len(texts), 'texts agree:', ', '.join('%s %d' % k for k in sorted(seen.items())))
+
+
+def sheets(*inside):
+    """the sample sheets, each with its name"""
+    folder = os.path.join(here, '..', 'sheets', *inside)
+    return [(n, open(os.path.join(folder, n), 'rb').read()) for n in sorted(os.listdir(folder)) if n.endswith('.sheet')]

@@ -20,7 +20,7 @@ fn taken(numbers: &mut [u32; rows::NUMBERS], count: usize, byte: u8) -> usize {
     count
 }
 
-// The numbers of a line, from the first of them on. The grade among the numbers of a sheet has seven digits, one more than a number of a text.
+// The numbers of a line, from the first of them on. A grade among the numbers of a sheet has seven digits, one more than a number of a text.
 fn numbers(s: &[u8], from: usize) -> [u32; rows::NUMBERS] {
     let mut numbers = [0u32; rows::NUMBERS];
     let mut count: usize = 0;

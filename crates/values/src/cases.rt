@@ -1,14 +1,14 @@
 // A case is the paper's sheet with numbers changed:
 //   0       what is printed: 0 the writer's answer; 1 the worksheet's and the writer's; 2 the text itself
 //   1       how many of 300 bytes the writer is lent
-//   then    PLACE=VALUE, a place among the numbers of the sheet (the grade's is 1000000 more than it) and what stands there; at most 19
+//   then    PLACE=VALUE, a place among the numbers of the sheet (a grade's is 1000000 more than it) and what stands there; at most 19
 use super::shown;
 use rows::NUMBERS;
 use sheet::Sheet;
 
-// The paper's sheet has 267 bytes.
+// The paper's sheet has 276 bytes.
 fn paper() -> Sheet {
-    reader::read(&shown::TEXT[0..267]).sheet
+    reader::read(&shown::TEXT[0..276]).sheet
 }
 
 fn put(numbers: &mut [u32; NUMBERS], place: u32, value: u32) {

@@ -6,7 +6,7 @@ use sheet::Sheet;
 
 // The paper's sheet as its text in 300 lent bytes, and the bytes beyond it as they were.
 pub(crate) const TEXT: [u8; 300] =
-    *b"issue=12\nvehicle=wb50\ngrade=0\nl01=0\nl02=2\nphases=2\nphase=2,50,0,40,15,0,0,0\nphase=4,40,0,35,20,70,100,1\ntrack=40,20\ndwell=0\nl18=60\nl19=41\nl20=55\nl28=40\nl30=200\nl31=10\nl33=270\nl37=125\nl39=150\nl47=60\nl56=30\nl57=120\nl58=40\npoints=3\npoint=0,0\npoint=100,140\npoint=400,320\n.................................";
+    *b"issue=12\nvehicle=wb50\ngrade=0\ngrade2=0\nl01=0\nl02=2\nphases=2\nphase=2,50,0,40,15,0,0,0\nphase=4,40,0,35,20,70,100,1\ntrack=40,20\ndwell=0\nl18=60\nl19=41\nl20=55\nl28=40\nl30=200\nl31=10\nl33=270\nl37=125\nl39=150\nl47=60\nl56=30\nl57=120\nl58=40\npoints=3\npoint=0,0\npoint=100,140\npoint=400,320\n........................";
 
 // What every lent byte is before.
 const BEFORE: u8 = b'.';
