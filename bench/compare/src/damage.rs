@@ -98,7 +98,7 @@ fn number(random: &mut Random, line: &mut Vec<u8>) {
     };
     let old = values[at].clone();
     values[at] = match random.below(12) {
-        0..=3 if key == "grade" => random.of_these(&["-81", "-80", "-1", "0", "1", "80", "81"]).to_string(),
+        0..=3 if key.starts_with("grade") => random.of_these(&["-81", "-80", "-1", "0", "1", "80", "81"]).to_string(),
         0..=3 => edge(random, range).to_string(),
         4 => random.of_these(&["65535", "65536", "99999", "100000", "999999", "131072", "4294967296"]).to_string(),
         5 => random.of_these(&["1000000", "0000001", "1234567"]).to_string(),

@@ -2,10 +2,10 @@
 
 use plain::Refused;
 
-pub const NUMBERS: usize = 127;
+pub const NUMBERS: usize = 128;
 pub const LINES: usize = 61;
 
-/// A sheet as the numbers of its text in their order: vehicles 0 to 3, the grade 1,000,000 more, the count of the numbers for
+/// A sheet as the numbers of its text in their order: vehicles 0 to 3, the grades 1,000,000 more, the count of the numbers for
 /// dwell before them, and every entry of all lists.
 pub type Numbers = [u32; NUMBERS];
 pub type Answer = Result<(), Refused>;

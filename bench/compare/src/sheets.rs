@@ -4,26 +4,27 @@ use crate::product::{Numbers, NUMBERS};
 use crate::random::Random;
 use plain::{Phase, Point, Sheet, Vehicle};
 
-pub const L01: usize = 3;
-pub const L02: usize = 4;
-pub const PHASES: usize = 6;
-pub const TRACK: usize = 70;
-pub const DWELL: usize = 73;
-pub const L18: usize = 81;
-pub const L19: usize = 82;
-pub const L20: usize = 83;
-pub const L31: usize = 86;
-pub const L33: usize = 87;
-pub const L39: usize = 89;
-pub const L47: usize = 90;
-pub const POINTS: usize = 95;
+pub const L01: usize = 4;
+pub const L02: usize = 5;
+pub const PHASES: usize = 7;
+pub const TRACK: usize = 71;
+pub const DWELL: usize = 74;
+pub const L18: usize = 82;
+pub const L19: usize = 83;
+pub const L20: usize = 84;
+pub const L31: usize = 87;
+pub const L33: usize = 88;
+pub const L39: usize = 90;
+pub const L47: usize = 91;
+pub const POINTS: usize = 96;
 
 /// The lines of a text: key, and the range of each number. A grade's is 1,000,000 more; a vehicle is a word; the first of dwell is the count of
 /// the others, which does not stand in a text.
-pub const KEYS: [(&str, &[(u32, u32)]); 24] = [
+pub const KEYS: [(&str, &[(u32, u32)]); 25] = [
     ("issue", &[(1, 65535)]),
     ("vehicle", &[(0, 3)]),
     ("grade", &[(999920, 1000080)]),
+    ("grade2", &[(999920, 1000080)]),
     ("l01", &[(0, 999)]),
     ("l02", &[(1, 999)]),
     ("phases", &[(1, 8)]),
@@ -198,7 +199,7 @@ pub fn text(n: &Numbers) -> Vec<Vec<u8>> {
             let values = &n[at + i * ranges.len()..][..ranges.len()];
             let word = match key {
                 "vehicle" => ["car", "su", "bus", "wb50"][values[0] as usize].to_string(),
-                "grade" => (i64::from(values[0]) - 1_000_000).to_string(),
+                "grade" | "grade2" => (i64::from(values[0]) - 1_000_000).to_string(),
                 "dwell" if values[0] == 0 => "0".to_string(),
                 "dwell" => joined(&values[1..][..values[0].min(8) as usize]),
                 _ => joined(values),
@@ -217,6 +218,7 @@ pub fn sheet(n: &Numbers) -> Sheet {
         issue: small(0),
         vehicle: [Vehicle::Car, Vehicle::Su, Vehicle::Bus, Vehicle::Wb50][n[1] as usize],
         grade: (n[2] as i32 - 1_000_000) as i16,
+        grade2: (n[3] as i32 - 1_000_000) as i16,
         l01: small(L01),
         l02: small(L02),
         phase_count: n[PHASES - 1] as u8,
@@ -227,16 +229,16 @@ pub fn sheet(n: &Numbers) -> Sheet {
         l18: small(L18),
         l19: small(L19),
         l20: small(L20),
-        l28: small(84),
-        l30: small(85),
+        l28: small(85),
+        l30: small(86),
         l31: small(L31),
         l33: small(L33),
-        l37: small(88),
+        l37: small(89),
         l39: small(L39),
         l47: small(L47),
-        l56: small(91),
-        l57: small(92),
-        l58: small(93),
+        l56: small(92),
+        l57: small(93),
+        l58: small(94),
         point_count: n[POINTS - 1] as u8,
         ..Sheet::default()
     };
@@ -261,7 +263,8 @@ pub fn sheet(n: &Numbers) -> Sheet {
 
 /// Its numbers.
 pub fn numbers(s: &Sheet) -> Numbers {
-    let mut all: Vec<u32> = vec![s.issue.into(), s.vehicle as u32, (i32::from(s.grade) + 1_000_000) as u32];
+    let mut all: Vec<u32> = vec![s.issue.into(), s.vehicle as u32];
+    all.extend([s.grade, s.grade2].map(|grade| (i32::from(grade) + 1_000_000) as u32));
     all.extend([s.l01, s.l02, s.phase_count.into()].map(u32::from));
     for p in &s.phases {
         all.extend([p.number, p.green, p.other, p.yellow, p.red, p.walk, p.clearance, p.mode].map(u32::from));
