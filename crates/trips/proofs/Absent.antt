@@ -15,9 +15,11 @@ use Rattle.sheet.specs.declared.Answer.the-variants.{Fine}
 use Rattle.sheet.specs.Refusals.{orElse, unless}
 use Rattle.sheet.proofs.Answers.{both-fine, fine-both, passes, holds}
 use Rattle.rows.specs.Table.{list, rowFor, placeFor, rowCount, numberCount, kindOf, formOf, rangesOf, widthOf, placeOf, usedRanges, inRange, inRanges, present, phaseKind, pointKind}
+use Rattle.rows.proofs.Tables.{dwell-place}
 use Rattle.faults.specs.Lines.{risesAfter, phaseFault, ruleFault, rowFault}
 use Rattle.text.specs.Read.{standsFor, mayLack}
 use Rattle.text.proofs.Absent.{absent-is-first-grade, absent-is-none, only-these-lack}
+use Rattle.trips.proofs.Agree.{head-present, middle-present}
 
 -- ---- a row without a fault has none on another line
 
@@ -61,17 +63,13 @@ grade-same : (v : List ℕ) (line : ℕ) → getD v (placeFor "grade2") 0 ≡ ge
 unfolding rowFault ruleFault usedRanges inRanges formOf rangesOf kindOf placeOf widthOf pick
 grade-same v line e = rw e
 
-dwell-at : placeOf (rowFor "dwell") ≡ placeFor "dwell"
-unfolding placeOf widthOf rangesOf kindOf
-dwell-at = refl
-
 none-in : (v : List ℕ) → getD v (placeFor "dwell") 0 ≡ 0 → inRanges v (placeOf (rowFor "dwell")) (take 1 (rangesOf (rowFor "dwell"))) ≡ true
 unfolding inRange inRanges rangesOf kindOf placeOf widthOf pick
 none-in v e = rw e refl
 
 none-fine : (v : List ℕ) (line : ℕ) → getD v (placeFor "dwell") 0 ≡ 0 → rowFault v (rowFor "dwell") line ≡ Fine
 unfolding rowFault ruleFault usedRanges risesAfter formOf kindOf pick orElse unless
-none-fine v line e = let at : getD v (placeOf (rowFor "dwell")) 0 ≡ 0 = rw dwell-at e in rw (at, none-in v e) refl
+none-fine v line e = let at : getD v (placeOf (rowFor "dwell")) 0 ≡ 0 = rw dwell-place e in rw (at, none-in v e) refl
 
 abbrev pub stood : List ℕ → ℕ → List ℕ
 stood v row = set v (placeOf row) (standsFor v row)
@@ -90,16 +88,13 @@ grade2-fine v line long f =
 dwell-fine : (v : List ℕ) (line : ℕ) → length v ≡ numberCount → rowFault (stood v (rowFor "dwell")) (rowFor "dwell") line ≡ Fine
 dwell-fine v line long =
     let x = standsFor v (rowFor "dwell") in
-    let here : getD (stood v (rowFor "dwell")) (placeFor "dwell") 0 ≡ x = rw dwell-at (getD-set-same v (placeFor "dwell") x 0 (omega arith)) in
+    let here : getD (stood v (rowFor "dwell")) (placeFor "dwell") 0 ≡ x = rw dwell-place (getD-set-same v (placeFor "dwell") x 0 (omega arith)) in
     none-fine (stood v (rowFor "dwell")) line (here ∙ absent-is-none v)
 
 -- the row before one that may be absent is a line of every text
 pub present-before : (older : Bool) (v : List ℕ) (row r : ℕ) → row < rowCount → mayLack older row ≡ true → r + 1 ≡ row → present v r ≡ true
-unfolding present pick
 present-before older v row r h m n =
-    by-absent older row h m
-    (λ e. let q : r ≡ rowFor "grade" = omega arith in rw q refl)
-    (λ e. let q : r ≡ rowFor "track" = omega arith in rw q refl)
+    by-absent older row h m (λ e. head-present v r (omega arith)) (λ e. middle-present v r (omega arith) (omega arith))
 
 -- where the row before it has no fault
 pub stood-fine : (older : Bool) (v : List ℕ) (row line : ℕ) → row < rowCount → length v ≡ numberCount → mayLack older row ≡ true

@@ -24,7 +24,7 @@ use Rattle.text.proofs.Cases.{byPlace, first-no-mark}
 use Rattle.text.proofs.Rows.{list-wide}
 use Rattle.trips.specs.Older.{textLess}
 use Rattle.trips.proofs.Cuts.{past}
-use Rattle.trips.proofs.Agree.{used, used-all, used-list, place-next, present-below, fault-below}
+use Rattle.trips.proofs.Agree.{head-present, middle-present, used, used-all, used-list, place-next, present-below, fault-below}
 use Rattle.trips.proofs.Back.{ClearAt, Clear, held-here, held-none}
 use Rattle.trips.proofs.Absent.{any-line, by-absent}
 use Rattle.text.proofs.Absent.{absent-is-first-grade, absent-is-none}
@@ -78,14 +78,6 @@ after-dwell : (at : ℕ) (l : List ℕ) → after at (keyOf (rowFor "dwell")) (k
 unfolding after keyOf kindOf pick
 after-dwell at l = refl
 
-l01-there : (v : List ℕ) → present v (rowFor "l01") ≡ true
-unfolding present pick
-l01-there v = refl
-
-l18-there : (v : List ℕ) → present v (rowFor "l18") ≡ true
-unfolding present pick
-l18-there v = refl
-
 -- the rows that a form has not got: they may be absent, and stand for what the numbers have
 pub record Spare (older : Bool) (gone : ℕ → Bool) (v : List ℕ) : Type 0 where
   pub may : (row : ℕ) → gone row ≡ true → mayLack older row ≡ true
@@ -101,11 +93,11 @@ module _ (older : Bool) (gone : ℕ → Bool) (v : List ℕ) (sp : Spare older g
       by-absent older row h (sp .may row g)
       (λ q.
       let n : row + 1 ≡ rowFor "l01" = omega arith in
-      let k = rest-there gone v (rowFor "l01") (omega arith) (stays (rowFor "l01") (omega arith) (λ x. omega arith) (λ x. omega arith)) (l01-there v) in
+      let k = rest-there gone v (rowFor "l01") (omega arith) (stays (rowFor "l01") (omega arith) (λ x. omega arith) (λ x. omega arith)) (head-present v (rowFor "l01") (omega arith)) in
       rw (q, e, n, k, after-grade2 at ((valuesText (formOf (rowFor "l01")) (placeOf (rowFor "l01")) (widthOf (rowFor "l01")) v ++ lineFeed) ++ Rest gone v (rowFor "l01" + 1))) refl)
       (λ q.
       let n : row + 1 ≡ rowFor "l18" = omega arith in
-      let k = rest-there gone v (rowFor "l18") (omega arith) (stays (rowFor "l18") (omega arith) (λ x. omega arith) (λ x. omega arith)) (l18-there v) in
+      let k = rest-there gone v (rowFor "l18") (omega arith) (stays (rowFor "l18") (omega arith) (λ x. omega arith) (λ x. omega arith)) (middle-present v (rowFor "l18") (omega arith) (omega arith)) in
       rw (q, e, n, k, after-dwell at ((valuesText (formOf (rowFor "l18")) (placeOf (rowFor "l18")) (widthOf (rowFor "l18")) v ++ lineFeed) ++ Rest gone v (rowFor "l18" + 1))) refl)
 
   -- ---- each row

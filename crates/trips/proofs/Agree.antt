@@ -8,7 +8,7 @@ use native.Mathlib.Omega.{arith}
 use lib.ListN.{length, getD, take, drop, length-take, length-drop}
 use lib.Seq.{getD-take, getD-drop, ext-getD}
 use lib.Dec.{T, leb, ltb, eqb, eqb→eq, leb→le, ltb→lt, le→leb}
-use borrow.Author.Tests.{ltb-false, eqb-true, eqb-false, eq-eqb}
+use borrow.Author.Tests.{lt-ltb, le-ltb, ltb-false, eqb-true, eqb-false, eq-eqb}
 use Rattle.units.specs.Numbers.{pick}
 use Rattle.units.proofs.Steps.{split}
 use Rattle.units.proofs.Tested.{also, also-left, also-right, given, given-then, at}
@@ -85,6 +85,14 @@ present-agree row v w a b =
     (λ t. split (ltb row pastPhases)
     (λ t₁. rw (t, t₁, a (ltb-false row firstPhase t)))
     (λ t₁. split (ltb row firstPoint) (λ t₂. rw (t, t₁, t₂)) (λ t₂. rw (t, t₁, t₂, b (ltb-false row firstPoint t₂)))))
+
+pub head-present : (v : List ℕ) (row : ℕ) → row < firstPhase → present v row ≡ true
+unfolding present pick
+head-present v row h = rw (lt-ltb row firstPhase h)
+
+pub middle-present : (v : List ℕ) (row : ℕ) → pastPhases ≤ row → row < firstPoint → present v row ≡ true
+unfolding present pick
+middle-present v row l h = rw (le-ltb row firstPhase (omega arith), le-ltb row pastPhases l, lt-ltb row firstPoint h)
 
 pub past-phases : (row : ℕ) → row < rowCount → firstPhase ≤ row → placeFor "phases" < placeOf row
 unfolding placeOf widthOf rangesOf kindOf

@@ -26,7 +26,7 @@ use Rattle.faults.proofs.Sound.{phase-in, point-in, dwell-in, dwell-width, phas
 use Rattle.text.specs.Text.{hereText, textFrom}
 use Rattle.trips.specs.Promises.{kept, trimmed}
 use Rattle.trips.proofs.Kept.{kept-at, kept-past, kept-take}
-use Rattle.trips.proofs.Agree.{Row, used, used-all, used-list, used-few, row-agree, list-agree, present-agree, rule-agree, fault-agree, before-agree, fits-agree, phase-row, point-row}
+use Rattle.trips.proofs.Agree.{head-present, middle-present, Row, used, used-all, used-list, used-few, row-agree, list-agree, present-agree, rule-agree, fault-agree, before-agree, fits-agree, phase-row, point-row}
 use Rattle.trips.proofs.Back.{Clear, held-here, held-none, zeros-in}
 use Rattle.rows.proofs.Tables.{pastPhases, dwell-place}
 
@@ -75,14 +75,6 @@ middle-row row l h n f g =
     let e : pastPhases + (row - pastPhases) ≡ row = omega arith in
     let t : T (pick (eqb (formOf row) list) true (pick (onTrack row) true (single row))) = rw e at (at (λ (r : ℕ). pick (eqb (formOf (pastPhases + r)) list) true (pick (onTrack (pastPhases + r)) true (single (pastPhases + r)))) (firstPoint - pastPhases) tt (row - pastPhases) (omega arith)) in
     split (onTrack row) (λ o. stood row (placeFor "track") (placeFor "dwell") f (rw o tt)) (λ o. stood row (placeFor "l18") (placeFor "point") g (rw (n, o) at t))
-
-head-present : (v : List ℕ) (row : ℕ) → row < firstPhase → present v row ≡ true
-unfolding present pick
-head-present v row h = rw (lt-ltb row firstPhase h)
-
-middle-present : (v : List ℕ) (row : ℕ) → pastPhases ≤ row → row < firstPoint → present v row ≡ true
-unfolding present pick
-middle-present v row l h = rw (le-ltb row firstPhase (omega arith), le-ltb row pastPhases l, lt-ltb row firstPoint h)
 
 phase-counted : (v : List ℕ) (i : ℕ) → i < mostPhases → present v (firstPhase + i) ≡ ltb i (getD v (placeFor "phases") 0)
 unfolding present pick
