@@ -4,12 +4,11 @@ use mathlib.Core.Path.{_≡_, refl, sym, ap, _∙_}
 use mathlib.Core.List.{List}
 use mathlib.Core.Bool.{Bool, true, false}
 use native.Mathlib.Omega.{arith}
-use lib.ListN.{length, getD, set, replicate, drop-of-length-le}
-use lib.Dec.{ltb, eqb}
+use lib.ListN.{set, replicate}
+use lib.Dec.{ltb}
 use borrow.Author.Tests.{le-ltb, ltb-true, ltb-false, ne-eqb}
 use Rattle.units.specs.Numbers.{pick}
 use Rattle.units.proofs.Steps.{split, never}
-use Rattle.units.proofs.Walk.{rest-at}
 use Rattle.sheet.specs.declared.Answer.{Answer}
 use Rattle.sheet.specs.declared.Answer.the-variants.{Refused}
 use Rattle.sheet.specs.declared.Refusal.the-variants.{Malformed}
@@ -17,13 +16,13 @@ use Rattle.sheet.specs.Zero.{zeroSheet}
 use Rattle.sheet.specs.declared.Sheet.{Sheet}
 use Rattle.sheet.specs.Refusals.{isFine, orElse}
 use Rattle.rows.specs.Table.{bytes, plain, rowCount, numberCount, kindOf, keyOf, absentOf, present}
-use Rattle.rows.specs.Marks.{markOf, lineFeed}
+use Rattle.rows.specs.Marks.{markOf}
 use Rattle.numbers.specs.Flat.{sheetOf}
 use Rattle.figures.specs.declared.Figure.{Figure}
 use Rattle.figures.specs.declared.Figure.the-variants.{Bad, Is}
 use Rattle.figures.specs.declared.Place.{Place}
 use Rattle.figures.specs.declared.Place.the-variants.{Nowhere, At}
-use Rattle.figures.specs.Figures.{onPlace, numberAt, after, afterAt}
+use Rattle.figures.specs.Figures.{numberAt, afterAt}
 use Rattle.text.specs.Line.{Taken, fieldAt, bad, good, fields, listEnd, listFields, lineAt}
 use Rattle.text.specs.Read.{Step, malformed, judgedAt, endAt, passed, filled, hereAt, linesFrom, linesOf, reply, readBy, mayLack}
 
@@ -149,22 +148,6 @@ comma j h = rw (le-ltb j 1 h) refl
 pub plain-field : (s : List ℕ) (q : ℕ) → fieldAt s q plain ≡ numberAt s q
 unfolding fieldAt pick
 plain-field s q = refl
-
--- ---- a place past what was found is in the text
-
-at-only : (p q : ℕ) (b : Bool) → pick b (At p) Nowhere ≡ At q → p ≡ q
-unfolding pick
-at-only p q true e = ap (λ (x : Place). onPlace x (λ (n : ℕ). n) 0) e
-at-only p q false e = never (ap (λ (x : Place). onPlace x (λ (n : ℕ). true) false) e)
-
-pub fed-in : (s : List ℕ) (at q : ℕ) → afterAt s at lineFeed ≡ At q → q ≤ length s
-unfolding after
-fed-in s at q e =
-    split (ltb at (length s))
-    (λ t. let h = ltb-true at (length s) t in
-    let p : at + 1 ≡ q = at-only (at + 1) q (eqb (getD s at 0) 10) (rw (rest-at 0 s at h) at e) in
-    omega (arith, h, p))
-    (λ t. never (ap (λ (x : Place). onPlace x (λ (n : ℕ). true) false) (rw (drop-of-length-le s (ltb-false at (length s) t)) at e)))
 
 -- all lines, from a row on
 module _ (may : ℕ → Bool) (s : List ℕ) (row line at : ℕ) (v : List ℕ) where

@@ -7,7 +7,7 @@ use lib.ListN.{length, getD, drop-of-length-le}
 use Rattle.units.specs.Numbers.{pick}
 use Rattle.sheet.specs.declared.Answer.the-variants.{Fine}
 use Rattle.sheet.specs.Refusals.{orElse, unless}
-use Rattle.rows.specs.Table.{plain, kinds, none, rowCount, kindOf, keyOf, formOf, usedRanges, inRanges}
+use Rattle.rows.specs.Table.{plain, kinds, none, rowCount, keyOf, formOf, usedRanges, inRanges}
 use Rattle.rows.specs.Marks.{lineFeed}
 use Rattle.rows.proofs.Tables.{kind-past, ranges-past, width-past}
 use Rattle.faults.specs.Lines.{ruleFault, rowFault}

@@ -1,6 +1,6 @@
 -- What the table says of each row's line: its key has three letters or more, where it has more numbers than one they are plain or a list, a list has room
 -- for one number and its count, and where a line has one number there is no rule but its range. Assumes nothing.
-use Prim.Native.Nat.{ℕ, _+_, _≤_, _<_}
+use Prim.Native.Nat.{ℕ, _≤_, _<_}
 use mathlib.Core.Path.{_≡_, refl, ap, sym, _∙_}
 use mathlib.Core.Bool.{Bool, true, false}
 use mathlib.Core.List.{List, [], _∷_}

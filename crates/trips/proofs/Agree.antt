@@ -1,5 +1,5 @@
 -- What a row depends on: those of its numbers that it has, a count below it, and the row before. So numbers that agree there have the same text and fault. Assumes nothing.
-use Prim.Native.Nat.{ℕ, zero, suc, _+_, _-_, _*_, _≤_, _<_, min}
+use Prim.Native.Nat.{ℕ, zero, suc, _+_, _-_, _≤_, _<_, min}
 use mathlib.Core.Path.{_≡_, refl, sym, ap, _∙_, subst}
 use mathlib.Core.List.{List, [], _∷_}
 use mathlib.Core.Bool.{Bool, true, false}
@@ -14,7 +14,7 @@ use Rattle.units.proofs.Steps.{split}
 use Rattle.units.proofs.Tested.{also, also-left, also-right, given, given-then, at}
 use Rattle.sheet.specs.declared.Refusal.the-variants.{OutOfRange, PhasesDontRise, PointsDontRise}
 use Rattle.sheet.specs.Refusals.{orElse, unless}
-use Rattle.rows.specs.Table.{placeFor, firstPhase, firstPoint, rowCount, plain, list, Range, kinds, rows, kindOf, formOf, rangesOf, widthOf, placeOf, usedRanges, inRanges, present, phaseKind, pointKind}
+use Rattle.rows.specs.Table.{placeFor, firstPhase, firstPoint, rowCount, plain, list, Range, kindOf, formOf, rangesOf, widthOf, placeOf, usedRanges, inRanges, present, phaseKind, pointKind}
 use Rattle.numbers.specs.Flat.{phasePlace, pointPlace, phaseAt, pointAt}
 use Rattle.faults.specs.Lines.{phaseFault, startsAtZero, pointRises, beforePhase, pointFits, listAt, risesAfter, ruleFault, rowFault}
 use Rattle.faults.proofs.Sound.{phase-place, point-place}

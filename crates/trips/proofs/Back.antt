@@ -1,37 +1,36 @@
 -- What was read of a line is what is written: a line that is read as the numbers w is the line of w. Assumes nothing.
 use Prim.Native.Nat.{ℕ, zero, suc, _+_, _-_, _≤_, _<_, min}
 use mathlib.Core.Path.{_≡_, refl, sym, ap, _∙_}
-use mathlib.Core.List.{List, [], _++_}
+use mathlib.Core.List.{List}
 use mathlib.Core.Bool.{true, false}
 use native.Mathlib.Omega.{arith}
-use lib.ListN.{length, getD, drop, set, replicate, length-set, length-replicate, drop-of-length-le, getD-replicate, List·getD-eq-default}
+use lib.ListN.{length, getD, set, replicate, length-set, length-replicate, getD-replicate, List·getD-eq-default}
 use lib.Seq.{getD-set-same, getD-set-other}
 use lib.Dec.{ltb, eqb}
 use borrow.Author.Tests.{eqb-true, eqb-false, ne-eqb, ltb-true, ltb-false}
 use Rattle.units.specs.Numbers.{pick}
 use Rattle.units.proofs.Steps.{split, never}
 use Rattle.sheet.specs.declared.Answer.the-variants.{Fine}
-use Rattle.sheet.specs.Refusals.{isFine, orElse}
+use Rattle.sheet.specs.Refusals.{isFine}
 use Rattle.sheet.proofs.Answers.{is-fine}
-use Rattle.rows.specs.Table.{rowCount, numberCount, plain, list, formOf, keyOf, widthOf, placeOf, present}
+use Rattle.rows.specs.Table.{rowCount, plain, list, formOf, keyOf, widthOf, placeOf, present}
 use Rattle.rows.specs.Marks.{markOf, lineFeed}
-use Rattle.rows.proofs.Tables.{place-room}
-use Rattle.faults.specs.Lines.{rowFault, hereFault, lineAfter, faultFrom}
+use Rattle.faults.specs.Lines.{rowFault}
 use Rattle.text.specs.Line.{Taken}
 use Rattle.text.specs.Read.{Step}
 use Rattle.figures.specs.declared.Figure.the-variants.{Is}
 use Rattle.figures.specs.declared.Place.the-variants.{At}
 use Rattle.figures.specs.Figures.{afterAt, numberAt}
 use Rattle.text.specs.Line.{fieldAt, bad, good, fields, listCount, listEnd, listFields, valuesAt, ended, lineAt}
-use Rattle.text.specs.Read.{judgedAt, endAt, onStep, hereAt, linesFrom, linesOf}
+use Rattle.text.specs.Read.{judgedAt}
 use Rattle.text.specs.Digits.{digitsIn}
-use Rattle.text.specs.Text.{fieldText, fieldsText, listText, valuesText, rowText, hereText, textFrom}
+use Rattle.text.specs.Text.{fieldText, fieldsText, listText, valuesText, rowText}
 use Rattle.text.proofs.Cases.{byPlace, byFigure, plain-field}
 use Rattle.text.proofs.Rows.{list-wide}
 use Rattle.trips.proofs.Cuts.{Cut, cut-then, cut-same}
 use Rattle.trips.proofs.Figures.{after-back}
 use Rattle.trips.proofs.Fields.{field-back}
-use Rattle.trips.proofs.Agree.{Below, used, used-all, used-list, used-agree, place-next, row-agree, row-below, present-below, fault-below}
+use Rattle.trips.proofs.Agree.{used, used-all, used-list}
 
 -- ---- the numbers of a line that was read: what they were, and that no other number has changed
 

@@ -5,16 +5,13 @@ use mathlib.Core.Bool.{Bool, true, false}
 use mathlib.Core.List.{List, _++_}
 use native.Mathlib.Omega.{arith}
 use lib.ListN.{length, getD, take, drop}
-use lib.Dec.{leb, eqb}
+use lib.Dec.{eqb}
 use borrow.Author.Tests.{eqb-true, eqb-false, le-leb}
 use Rattle.units.specs.Numbers.{pick}
 use Rattle.units.proofs.Steps.{split, never, both-left, both-right}
 use Rattle.sheet.specs.declared.Sheet.{Sheet}
-use Rattle.sheet.specs.declared.Answer.{Answer}
 use Rattle.sheet.specs.declared.Answer.the-variants.{Fine}
-use Rattle.sheet.specs.declared.Refusal.the-variants.{NoRoom}
-use Rattle.sheet.specs.Entries.{Shaped}
-use Rattle.sheet.specs.Refusals.{isFine, orElse, unless}
+use Rattle.sheet.specs.Refusals.{isFine, orElse}
 use Rattle.sheet.proofs.Answers.{both-fine, holds, is-fine}
 use Rattle.rows.specs.Table.{rowFor, rowCount, kindOf, rangesOf, absentOf, widthOf, placeOf}
 use Rattle.numbers.specs.Flat.{gradeNumber, gradeOf, numbersFrom, flatOf, sheetOf}
@@ -24,11 +21,11 @@ use Rattle.faults.specs.Ranges.{Between}
 use Rattle.faults.proofs.Sound.{sound}
 use Rattle.text.specs.declared.Reading.{Reading}
 use Rattle.text.specs.declared.Written.{Written}
-use Rattle.text.specs.Read.{standsFor, linesOf, readBy, mayLack, readOf, olderOf}
+use Rattle.text.specs.Read.{standsFor, readBy, mayLack, readOf, olderOf}
 use Rattle.text.specs.Text.{textOf}
 use Rattle.text.specs.Write.{answerTo, writtenOf, bytesOf}
 use Rattle.trips.specs.Convert.{convertedOf, convertedBytes}
-use Rattle.trips.specs.Promises.{Blank, trimmed}
+use Rattle.trips.specs.Promises.{Blank}
 use Rattle.trips.specs.Older.{lacking, olderText, EachFormIsTaken, EachFormIsConverted, Form, TakenIsAForm, OlderIsAccepted, ConvertedIsRead, TodayIsRead, TodayComesBack, TwiceIsOnce, RefusedIsNotConverted}
 use Rattle.trips.proofs.Back.{Clear}
 use Rattle.text.proofs.Absent.{absent-is-first-grade, absent-is-none}

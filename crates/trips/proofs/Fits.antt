@@ -5,7 +5,6 @@ use mathlib.Core.Bool.{true}
 use mathlib.Core.List.{List}
 use native.Mathlib.Omega.{arith}
 use lib.ListN.{length, drop, length-append, length-drop}
-use lib.Dec.{leb}
 use borrow.Author.Tests.{leb-true}
 use Rattle.units.specs.Numbers.{pick}
 use Rattle.units.proofs.Steps.{split}

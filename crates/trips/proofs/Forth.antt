@@ -2,38 +2,37 @@
 use Prim.Native.Nat.{ℕ, zero, suc, _+_, _-_, _≤_, _<_, min}
 use mathlib.Core.Path.{_≡_, refl, sym, ap, _∙_}
 use mathlib.Core.List.{List, [], _∷_, _++_, append-assoc, append-nil}
-use mathlib.Core.Bool.{true, false}
+use mathlib.Core.Bool.{true}
 use native.Mathlib.Omega.{arith}
 use native.Mathlib.Numerals.{add-one}
-use lib.ListN.{length, getD, drop, take, set, replicate, length-append, length-drop, length-replicate, List·getD-append}
+use lib.ListN.{length, getD, drop, take, set, replicate, length-append, length-replicate, List·getD-append}
 use lib.Seq.{getD-take, take-suc, set-at, set-set, set-comm, set-getD, getD-set-other, length-take-le, ext-getD, getD-append-add, take-all}
 use lib.Dec.{ltb, leb, eqb, leb→le, eqb→eq}
-use borrow.Author.Tests.{eq-eqb, ne-eqb, eqb-true, eqb-false, ltb-true, ltb-false, le-ltb}
+use borrow.Author.Tests.{ne-eqb, eqb-true, eqb-false, ltb-true, ltb-false, le-ltb}
 use Rattle.units.specs.Numbers.{pick}
 use Rattle.units.proofs.Steps.{split}
 use Rattle.units.proofs.Tested.{also, also-left, also-right, given, given-then, at}
 use Rattle.sheet.specs.declared.Answer.the-variants.{Fine}
 use Rattle.sheet.proofs.Answers.{both-fine, passes}
-use Rattle.rows.specs.Table.{rowCount, numberCount, kindCount, bytes, plain, list, Range, _to_, kinds, none, formOf, keyOf, kindOf, rangesOf, rangeOf, widthOf, placeOf, usedRanges, present}
+use Rattle.rows.specs.Table.{rowCount, numberCount, kindCount, bytes, plain, list, Range, _to_, kinds, none, formOf, keyOf, kindOf, rangesOf, rangeOf, widthOf, placeOf, usedRanges}
 use Rattle.rows.specs.Marks.{markOf, lineFeed}
-use Rattle.rows.proofs.Tables.{place-room, place-past, kind-few, for-each, kindRanges, rangeAt}
-use Rattle.faults.specs.Lines.{rowFault, hereFault, lineAfter, faultFrom}
+use Rattle.rows.proofs.Tables.{place-room, kind-few, for-each, kindRanges, rangeAt}
+use Rattle.faults.specs.Lines.{rowFault}
 use Rattle.faults.specs.Ranges.{Between}
 use Rattle.faults.proofs.Rows.{in-each}
 use Rattle.figures.specs.declared.Place.the-variants.{Nowhere, At}
 use Rattle.figures.specs.declared.Figure.the-variants.{Is}
 use Rattle.figures.specs.Figures.{digitOf, after, numberAt, afterAt}
 use Rattle.text.specs.Line.{fieldAt, good, fields, listCount, listEnd, listFields, valuesAt, lineAt}
-use Rattle.text.specs.Read.{step, judgedAt, endAt, hereAt, linesFrom, linesOf}
 use Rattle.text.specs.Digits.{digitsIn}
-use Rattle.text.specs.Text.{fieldText, fieldsText, listText, valuesText, rowText, hereText, textFrom}
+use Rattle.text.specs.Text.{fieldText, fieldsText, listText, valuesText, rowText}
 use Rattle.text.proofs.Cases.{comma, plain-field}
 use Rattle.text.proofs.Rows.{list-wide}
 use Rattle.trips.proofs.Cuts.{past}
 use Rattle.trips.proofs.Figures.{after-read, number-read}
 use Rattle.trips.proofs.Fields.{domain, Sayable, field-read}
-use Rattle.trips.proofs.Agree.{used, used-all, used-list, used-few, place-next, present-below, fault-below}
-use Rattle.trips.proofs.Back.{ClearAt, Clear, held-here, held-none, zeros-in}
+use Rattle.trips.proofs.Agree.{used, used-all, used-list, used-few}
+use Rattle.trips.proofs.Back.{zeros-in}
 
 -- ---- the first m numbers, and zeros behind them
 

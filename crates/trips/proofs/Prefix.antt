@@ -11,7 +11,7 @@ use borrow.Author.Tests.{ltb-false, ne-eqb}
 use Rattle.units.specs.Numbers.{pick}
 use Rattle.units.proofs.Steps.{split, never}
 use Rattle.sheet.specs.Refusals.{isFine, orElse}
-use Rattle.rows.specs.Table.{rowCount, numberCount, bytes, worded, signed, list, keyOf, formOf, placeOf, widthOf, present}
+use Rattle.rows.specs.Table.{rowCount, numberCount, worded, signed, list, keyOf, formOf, placeOf, widthOf}
 use Rattle.rows.specs.Marks.{markOf, minus, lineFeed, wordOf}
 use Rattle.numbers.specs.Flat.{sheetOf}
 use Rattle.faults.specs.Whole.{wholeFault}

@@ -1,5 +1,5 @@
 -- A sheet and the same with its entries past the counts 0 have the same text and the same faults: row by row. Assumes nothing.
-use Prim.Native.Nat.{ℕ, zero, suc, _+_, _-_, _*_, _≤_, _<_}
+use Prim.Native.Nat.{ℕ, zero, suc, _+_, _-_, _≤_, _<_}
 use mathlib.Core.Path.{_≡_, refl, sym, ap, _∙_}
 use mathlib.Core.List.{List, _∷_, _++_}
 use mathlib.Core.Bool.{Bool, true, false}
@@ -17,7 +17,7 @@ use Rattle.sheet.specs.declared.Point.{Point}
 use Rattle.sheet.specs.declared.Refusal.the-variants.{RelocationBeyondStorage, WarningTooShort, BeyondLastPoint, TrackLongerThanTransfer, DwellPhaseNotListed}
 use Rattle.sheet.specs.Refusals.{orElse, unless}
 use Rattle.sheet.specs.Zero.{zeroPhase, zeroPoint}
-use Rattle.rows.specs.Table.{mostPhases, mostPoints, rowFor, placeFor, firstPhase, firstPoint, rowCount, list, kinds, rows, kindOf, formOf, rangesOf, widthOf, placeOf, present}
+use Rattle.rows.specs.Table.{mostPhases, mostPoints, rowFor, placeFor, firstPhase, firstPoint, rowCount, list, kindOf, formOf, rangesOf, widthOf, placeOf, present}
 use Rattle.numbers.specs.Flat.{phasePlace, pointPlace, phaseNumbers, pointNumbers, numbersFrom, flatOf, phaseAt, pointAt}
 use Rattle.transfer.specs.Transfer.{trackFits}
 use Rattle.faults.specs.Lines.{hereFault, lineAfter, ruleFault, faultFrom}

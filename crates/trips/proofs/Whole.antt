@@ -9,7 +9,7 @@ use lib.Seq.{getD-set-same, getD-set-other}
 use lib.Dec.{eqb}
 use borrow.Author.Tests.{eq-eqb, ne-eqb, eqb-true, eqb-false}
 use Rattle.units.specs.Numbers.{pick}
-use Rattle.units.proofs.Steps.{split, never, both-left}
+use Rattle.units.proofs.Steps.{split, never}
 use Rattle.sheet.specs.declared.Answer.the-variants.{Fine}
 use Rattle.sheet.specs.Refusals.{isFine, orElse}
 use Rattle.rows.specs.Table.{rowCount, numberCount, list, formOf, widthOf, placeOf, present}

@@ -11,7 +11,6 @@ use Rattle.sheet.specs.declared.Answer.the-variants.{Fine}
 use Rattle.sheet.specs.Entries.{Shaped}
 use Rattle.sheet.specs.Refusals.{isFine}
 use Rattle.sheet.specs.Zero.{zeroPhase, zeroPoint}
-use Rattle.rows.specs.Table.{mostPhases, mostPoints}
 use Rattle.rows.specs.Longest.{longest}
 use Rattle.faults.specs.Whole.{acceptOf}
 use Rattle.text.specs.Read.{readOf}
