@@ -2,7 +2,7 @@
 -- the first the lines are document 01's.
 use Prim.Native.Nat.{ℕ, _-_}
 use mathlib.Core.Path.{_≡_}
-use mathlib.Core.List.{List}
+use mathlib.Core.List.{List, [], _∷_}
 use lib.IntN.{ℤ}
 use lib.ListN.{take, drop, set}
 use Rattle.units.specs.declared.Feet.{Feet}
@@ -16,8 +16,8 @@ use Rattle.faults.specs.Whole.{acceptOf}
 use Rattle.faults.specs.Ranges.{Between}
 use Rattle.curve.specs.Curve.{accelerationOf}
 use Rattle.rules.specs.Rules.{line51}
-use Rattle.lines.specs.Sums.{_plus_}
-use Rattle.lines.specs.Lines.{l20, l23, l24, l25, l44, l45, l48, l54, linesOf}
+use Rattle.lines.specs.Sums.{_plus_, _less_}
+use Rattle.lines.specs.Lines.{l17, l20, l22, l23, l24, l28, l34, l44, l45, l48, l52, l53, l54, l60, linesOf}
 use Rattle.lines.specs.Worksheet.{worksheetOf, inOrder}
 
 -- the sheet with this second grade, and all else as it is
@@ -69,7 +69,7 @@ AnySecondGrade =
     × (take 48 (inOrder (worksheetOf (withGrade2 s g) .lines)) ≡ take 48 (inOrder (worksheetOf s .lines)))
     × (drop 51 (inOrder (worksheetOf (withGrade2 s g) .lines)) ≡ drop 51 (inOrder (worksheetOf s .lines)))
 
--- ---- document 01's lines
+-- ---- document 01's lines, those that a grade enters
 
 -- "24, 49 and 54 are acceleration times over 23, 48 and 20. .. The one grade entered serves all three."
 abbrev pub byOneGrade : Sheet → Feet → Tenths
@@ -78,11 +78,19 @@ byOneGrade s d = accelerationOf (take (s .«point_count») (s .points)) (s .vehi
 abbrev pub one24 : Sheet → Tenths
 one24 s = byOneGrade s (l23 s)
 
+-- "25 = 22 + 24; 29 = 17 + 25 + 28 (26 and 27 repeat 17 and 25)"
+abbrev pub one25 : Sheet → Tenths
+one25 s = l22 s plus one24 s
+
+abbrev pub one29 : Sheet → Tenths
+one29 s = l17 s plus one25 s plus l28 s
+
+-- "35 is 29 less 34, or 0 if that is below 0"
+abbrev pub one35 : Sheet → Tenths
+one35 s = one29 s less l34 s
+
 abbrev pub one49 : Sheet → Tenths
 one49 s = byOneGrade s (l48 s)
-
-abbrev pub one54 : Sheet → Tenths
-one54 s = byOneGrade s (l20 s)
 
 -- "50 = 45 + 49"
 abbrev pub one50 : Sheet → Tenths
@@ -90,16 +98,31 @@ one50 s = l45 s plus one49 s
 
 -- "51 is the largest of 44, 50 and (house) 25, up to a whole second."
 abbrev pub one51 : Sheet → Tenths
-one51 s = line51 (l44 s) (one50 s) (l25 s)
+one51 s = line51 (l44 s) (one50 s) (one25 s)
 
--- the lines, with this time for line n
-abbrev pub line : ℕ → Tenths → List ℕ → List ℕ
-line n t lines = set lines (n - 1) (t .0)
+abbrev pub one54 : Sheet → Tenths
+one54 s = byOneGrade s (l20 s)
 
--- all 61: these five in their places, and the others, whose rules name no grade
+-- "55 = 52 + 53 + 54"
+abbrev pub one55 : Sheet → Tenths
+one55 s = l52 s plus l53 s plus one54 s
+
+-- "61 is 55 less 60, at least 0"
+abbrev pub one61 : Sheet → Tenths
+one61 s = one55 s less l60 s
+
+-- these lines, each with its number, in the place of those of the list
+abbrev pub replacing : List (ℕ × Tenths) → List ℕ → List ℕ
+replacing [] lines = lines
+replacing (x ∷ xs) lines = set (replacing xs lines) (x .0 - 1) (x .1 .0)
+
+-- all 61: these in their places, and the others, which no grade enters
 abbrev pub documentOne : Sheet → List ℕ
 documentOne s =
-    line 24 (one24 s) (line 49 (one49 s) (line 50 (one50 s) (line 51 (one51 s) (line 54 (one54 s) (inOrder (linesOf s))))))
+    replacing
+    ((24, one24 s) ∷ (25, one25 s) ∷ (27, one25 s) ∷ (29, one29 s) ∷ (35, one35 s)
+    ∷ (49, one49 s) ∷ (50, one50 s) ∷ (51, one51 s) ∷ (54, one54 s) ∷ (55, one55 s) ∷ (61, one61 s) ∷ [])
+    (inOrder (linesOf s))
 
 -- "a converter writes both grades equal": every line is then document 01's
 abbrev pub OneGradeAsBefore : Type 0
