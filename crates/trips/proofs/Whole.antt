@@ -1,6 +1,6 @@
 -- What was read is what is written: a text whose lines are fine gives numbers without a fault, and is their text without the lines that were absent. Assumes nothing.
 use Prim.Native.Nat.{ℕ, zero, suc, _+_, _-_, _≤_, _<_}
-use mathlib.Core.Path.{_≡_, refl, sym, ap, _∙_}
+use mathlib.Core.Path.{_≡_, refl, sym, ap, subst, _∙_}
 use mathlib.Core.List.{List, [], _++_}
 use mathlib.Core.Bool.{Bool, true, false}
 use native.Mathlib.Omega.{arith}
@@ -185,8 +185,8 @@ lines-back older s (suc n) row line at v k l z d f =
     let here = here-back older s row line at v (omega arith) l z d (on .0) in
     let zero-behind : Bare (row + 1) (t .numbers) = λ m g. here .behind m (omega (arith, place-next row)) ∙ z m (omega (arith, place-next row)) in
     let fined : Fined (row + 1) (t .numbers) = λ r i e. let q : r ≡ row = omega arith in rw q (here .fault (t .numbers) i refl (λ m g. refl)) in
-    let rest = lines-back older s n (row + 1) later (t .next) (t .numbers) (omega arith) (here .long ∙ l) zero-behind fined (rw (on .1) at f) in
-    rw (on .1) (whole-next older s n row at v (t .numbers) _ (t .next) (omega arith) l here rest)
+    let rest = lines-back older s n (row + 1) later (t .next) (t .numbers) (omega arith) (here .long ∙ l) zero-behind fined (ap (λ (x : Step). isFine (x .answer)) (sym (on .1)) ∙ f) in
+    subst (λ (x : Step). Whole older s (suc n) row at v (x .numbers)) (sym (on .1)) (whole-next older s n row at v (t .numbers) _ (t .next) (omega arith) l here rest)
 
 -- a text whose lines are fine, and the numbers that were read
 pub text-back : (older : Bool) (s : List ℕ) → linesOf (mayLack older) s .answer ≡ Fine → Whole older s rowCount 0 0 (replicate numberCount 0) (linesOf (mayLack older) s .numbers)
