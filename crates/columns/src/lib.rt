@@ -1,287 +1,39 @@
-// Table 628-B in hundredths: a row for each vehicle and grade column (SU at 2 4 6 8 percent, bus at 1 2 4 6 8, WB-50 at 0 2 4 6 8), every 25 ft from 25 to 400.
+// Table 628-B in the page's order, a printed row to a line, for a proofreader with the page beside it. A row has what is printed behind the point, 06 for 1.06: every factor is 1 and these hundredths.
 ghost use mathlib.Core.Path.{_≡_};
-ghost use Prim.Native.Nat.{_<_, _≤_};
 ghost use Rattle.units.specs.Numbers.{hundredths};
-ghost use Rattle.table.specs.Table.{columnIn, entryOf, table};
+ghost use Rattle.table.specs.Table.{entryOf};
 use units::Hundredths;
 
-const SU_2: [Hundredths; 16] = [Hundredths(100); 16];
-
-const SU_4: [Hundredths; 16] = [
-    Hundredths(106),
-    Hundredths(109),
-    Hundredths(110),
-    Hundredths(111),
-    Hundredths(112),
-    Hundredths(112),
-    Hundredths(113),
-    Hundredths(113),
-    Hundredths(114),
-    Hundredths(114),
-    Hundredths(114),
-    Hundredths(114),
-    Hundredths(115),
-    Hundredths(115),
-    Hundredths(115),
-    Hundredths(115),
+const TABLE: [[u8; 14]; 16] = [
+    // SU              bus                 WB-50
+    // 2   4   6   8   1   2   4   6   8   0   2   4   6   8 percent
+    [00, 06, 13, 19, 00, 01, 10, 19, 28, 00, 09, 27, 42, 55], // 25 ft
+    [00, 09, 17, 25, 00, 01, 12, 21, 30, 00, 10, 28, 44, 58], // 50 ft
+    [00, 10, 19, 29, 00, 02, 13, 23, 33, 00, 11, 30, 47, 61], // 75 ft
+    [00, 11, 21, 32, 00, 02, 14, 25, 35, 00, 11, 31, 48, 64], // 100 ft
+    [00, 12, 23, 34, 00, 03, 15, 26, 37, 00, 12, 32, 50, 66], // 125 ft
+    [00, 12, 24, 37, 00, 03, 16, 28, 40, 00, 12, 33, 52, 68], // 150 ft
+    [00, 13, 25, 38, 00, 03, 17, 29, 42, 00, 12, 34, 53, 70], // 175 ft
+    [00, 13, 26, 40, 00, 04, 17, 30, 43, 00, 13, 35, 54, 72], // 200 ft
+    [00, 14, 27, 42, 00, 04, 18, 32, 45, 00, 13, 35, 56, 74], // 225 ft
+    [00, 14, 28, 43, 00, 04, 19, 33, 47, 00, 13, 36, 57, 76], // 250 ft
+    [00, 14, 29, 44, 00, 05, 20, 34, 49, 00, 14, 37, 58, 77], // 275 ft
+    [00, 14, 30, 46, 00, 05, 20, 35, 50, 00, 14, 37, 59, 79], // 300 ft
+    [00, 15, 30, 47, 00, 05, 21, 36, 52, 00, 14, 38, 60, 81], // 325 ft
+    [00, 15, 31, 48, 00, 05, 22, 37, 54, 00, 15, 39, 61, 82], // 350 ft
+    [00, 15, 31, 49, 00, 06, 22, 38, 55, 00, 15, 39, 62, 84], // 375 ft
+    [00, 15, 32, 50, 00, 06, 23, 40, 57, 00, 15, 40, 63, 85], // 400 ft
 ];
-
-const SU_6: [Hundredths; 16] = [
-    Hundredths(113),
-    Hundredths(117),
-    Hundredths(119),
-    Hundredths(121),
-    Hundredths(123),
-    Hundredths(124),
-    Hundredths(125),
-    Hundredths(126),
-    Hundredths(127),
-    Hundredths(128),
-    Hundredths(129),
-    Hundredths(130),
-    Hundredths(130),
-    Hundredths(131),
-    Hundredths(131),
-    Hundredths(132),
-];
-
-const SU_8: [Hundredths; 16] = [
-    Hundredths(119),
-    Hundredths(125),
-    Hundredths(129),
-    Hundredths(132),
-    Hundredths(134),
-    Hundredths(137),
-    Hundredths(138),
-    Hundredths(140),
-    Hundredths(142),
-    Hundredths(143),
-    Hundredths(144),
-    Hundredths(146),
-    Hundredths(147),
-    Hundredths(148),
-    Hundredths(149),
-    Hundredths(150),
-];
-
-const BUS_1: [Hundredths; 16] = [Hundredths(100); 16];
-
-const BUS_2: [Hundredths; 16] = [
-    Hundredths(101),
-    Hundredths(101),
-    Hundredths(102),
-    Hundredths(102),
-    Hundredths(103),
-    Hundredths(103),
-    Hundredths(103),
-    Hundredths(104),
-    Hundredths(104),
-    Hundredths(104),
-    Hundredths(105),
-    Hundredths(105),
-    Hundredths(105),
-    Hundredths(105),
-    Hundredths(106),
-    Hundredths(106),
-];
-
-const BUS_4: [Hundredths; 16] = [
-    Hundredths(110),
-    Hundredths(112),
-    Hundredths(113),
-    Hundredths(114),
-    Hundredths(115),
-    Hundredths(116),
-    Hundredths(117),
-    Hundredths(117),
-    Hundredths(118),
-    Hundredths(119),
-    Hundredths(120),
-    Hundredths(120),
-    Hundredths(121),
-    Hundredths(122),
-    Hundredths(122),
-    Hundredths(123),
-];
-
-const BUS_6: [Hundredths; 16] = [
-    Hundredths(119),
-    Hundredths(121),
-    Hundredths(123),
-    Hundredths(125),
-    Hundredths(126),
-    Hundredths(128),
-    Hundredths(129),
-    Hundredths(130),
-    Hundredths(132),
-    Hundredths(133),
-    Hundredths(134),
-    Hundredths(135),
-    Hundredths(136),
-    Hundredths(137),
-    Hundredths(138),
-    Hundredths(140),
-];
-
-const BUS_8: [Hundredths; 16] = [
-    Hundredths(128),
-    Hundredths(130),
-    Hundredths(133),
-    Hundredths(135),
-    Hundredths(137),
-    Hundredths(140),
-    Hundredths(142),
-    Hundredths(143),
-    Hundredths(145),
-    Hundredths(147),
-    Hundredths(149),
-    Hundredths(150),
-    Hundredths(152),
-    Hundredths(154),
-    Hundredths(155),
-    Hundredths(157),
-];
-
-const WB50_0: [Hundredths; 16] = [Hundredths(100); 16];
-
-const WB50_2: [Hundredths; 16] = [
-    Hundredths(109),
-    Hundredths(110),
-    Hundredths(111),
-    Hundredths(111),
-    Hundredths(112),
-    Hundredths(112),
-    Hundredths(112),
-    Hundredths(113),
-    Hundredths(113),
-    Hundredths(113),
-    Hundredths(114),
-    Hundredths(114),
-    Hundredths(114),
-    Hundredths(115),
-    Hundredths(115),
-    Hundredths(115),
-];
-
-const WB50_4: [Hundredths; 16] = [
-    Hundredths(127),
-    Hundredths(128),
-    Hundredths(130),
-    Hundredths(131),
-    Hundredths(132),
-    Hundredths(133),
-    Hundredths(134),
-    Hundredths(135),
-    Hundredths(135),
-    Hundredths(136),
-    Hundredths(137),
-    Hundredths(137),
-    Hundredths(138),
-    Hundredths(139),
-    Hundredths(139),
-    Hundredths(140),
-];
-
-const WB50_6: [Hundredths; 16] = [
-    Hundredths(142),
-    Hundredths(144),
-    Hundredths(147),
-    Hundredths(148),
-    Hundredths(150),
-    Hundredths(152),
-    Hundredths(153),
-    Hundredths(154),
-    Hundredths(156),
-    Hundredths(157),
-    Hundredths(158),
-    Hundredths(159),
-    Hundredths(160),
-    Hundredths(161),
-    Hundredths(162),
-    Hundredths(163),
-];
-
-const WB50_8: [Hundredths; 16] = [
-    Hundredths(155),
-    Hundredths(158),
-    Hundredths(161),
-    Hundredths(164),
-    Hundredths(166),
-    Hundredths(168),
-    Hundredths(170),
-    Hundredths(172),
-    Hundredths(174),
-    Hundredths(176),
-    Hundredths(177),
-    Hundredths(179),
-    Hundredths(181),
-    Hundredths(182),
-    Hundredths(184),
-    Hundredths(185),
-];
-
-// The columns of SU, those of the bus, and those of WB-50.
-fn su(col: usize) -> [Hundredths; 16]
-    requires { ⌜ col < 4 ⌝ }
-    ensures { λ r. ⌜ r ≡ columnIn table col ⌝ }
-{
-    match col {
-        0 => SU_2,
-        1 => SU_4,
-        2 => SU_6,
-        _ => SU_8,
-    }
-}
-
-fn bus(col: usize) -> [Hundredths; 16]
-    requires { ⌜ (4 ≤ col) × (col < 9) ⌝ }
-    ensures { λ r. ⌜ r ≡ columnIn table col ⌝ }
-{
-    match col {
-        4 => BUS_1,
-        5 => BUS_2,
-        6 => BUS_4,
-        7 => BUS_6,
-        _ => BUS_8,
-    }
-}
-
-fn wb50(col: usize) -> [Hundredths; 16]
-    requires { ⌜ (9 ≤ col) × (col < 14) ⌝ }
-    ensures { λ r. ⌜ r ≡ columnIn table col ⌝ }
-{
-    match col {
-        9 => WB50_0,
-        10 => WB50_2,
-        11 => WB50_4,
-        12 => WB50_6,
-        _ => WB50_8,
-    }
-}
-
-// A column of the table; past the last, only zeros.
-fn column(col: usize) -> [Hundredths; 16]
-    ensures { λ r. ⌜ r ≡ columnIn table col ⌝ }
-{
-    if col < 4 {
-        return su(col);
-    }
-    if col < 9 {
-        return bus(col);
-    }
-    if col < 14 {
-        return wb50(col);
-    }
-    [Hundredths(0); 16]
-}
 
 // What the table has at a column and a row; 0 outside it.
 pub fn entry(col: usize, row: usize) -> Hundredths
     ensures { λ r. ⌜ r ≡ hundredths (entryOf row col) ⌝ }
 {
-    if 16 <= row {
-        return Hundredths(0);
+    if 14 <= col {
+        return Hundredths(0); // past the last column
     }
-    let c = column(col);
-    c[row]
+    if 16 <= row {
+        return Hundredths(0); // past the last row
+    }
+    Hundredths(100 + TABLE[row][col] as u64)
 }

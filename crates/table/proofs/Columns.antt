@@ -1,15 +1,15 @@
--- No column falls, no entry is below 1 or above 2, each by one computed test over the whole table; and what stands in a column, inside the table and past it. Assumes nothing.
-use mathlib.Core.Path.{_≡_, refl, sym}
+-- No column falls, no entry is below 1 or above 2, each by one computed test over the whole table; what stands behind the point of each entry; and what stands outside the table. Assumes nothing.
+use mathlib.Core.Path.{_≡_, refl}
 use mathlib.Core.Bool.{Bool}
-use mathlib.Core.List.{List, [], _∷_}
-use Prim.Native.Nat.{ℕ, zero, suc, _<_, _≤_}
+use mathlib.Core.List.{List, [], map}
+use Prim.Native.Nat.{ℕ, suc, _+_, _-_, _<_, _≤_}
 use native.Mathlib.Nat.{le-trans}
+use native.Mathlib.Omega.{arith}
 use lib.Dec.{T, leb, leb→le}
-use lib.ListN.{getD, length, replicate, List·getD-eq-default}
-use Rattle.units.specs.Numbers.{hundredths}
-use Rattle.units.proofs.Tested.{also-left, also-right, allBelow, at, all, entry}
-use Rattle.table.specs.Table.{table, entryOf, columnIn}
-use Rattle.table.specs.Promises.{NoColumnFalls, NoEntryBelowOne}
+use lib.ListN.{getD, length, List·getD-eq-default, List·getD-map}
+use Rattle.units.proofs.Tested.{allBelow, at, all, entry}
+use Rattle.table.specs.Table.{table, entryOf}
+use Rattle.table.specs.Promises.{NoColumnFalls, NoEntryBelowOne, Corners}
 
 -- a test of an entry, passed at every column below 14 and every row below n
 abbrev pub everywhere : (ℕ → ℕ → Bool) → ℕ → Bool
@@ -38,34 +38,35 @@ small r c =
     leb→le (getD (getD table r []) c 0) 200
     (entry (λ (n : ℕ). leb n 200) (getD table r []) 0 (entry small-row table [] tt tt r) tt c)
 
--- a column has the printed entry in every row; past the last row both have 0
-in-column : (rows : List (List ℕ)) (col r : ℕ) → getD (columnIn rows col) r (hundredths 0) ≡ hundredths (getD (getD rows r []) col 0)
-unfolding columnIn
-in-column [] col r = refl
-in-column (row ∷ rows) col zero = refl
-in-column (row ∷ rows) col (suc r) = in-column rows col r
+pub corners : Corners
+unfolding entryOf table
+corners = (refl, refl, refl, refl, refl, refl)
 
-pub printed : (col r : ℕ) → getD (columnIn table col) r (hundredths 0) ≡ hundredths (entryOf r col)
+-- what the page has behind the point, row by row: this is how the code keeps the table
+abbrev pub decimals : List (List ℕ)
+decimals = map (map (λ (n : ℕ). n - 100)) table
+
+decimal : (r c : ℕ) → getD (getD decimals r []) c 0 ≡ entryOf r c - 100
 unfolding entryOf
-printed col r = in-column table col r
+decimal r c =
+    rw (List·getD-map (map (λ (n : ℕ). n - 100)) table r []) (List·getD-map (λ (n : ℕ). n - 100) (getD table r []) c 0)
 
+pub printed : (r c : ℕ) → c < 14 → r < 16 → 100 + getD (getD decimals r []) c 0 ≡ entryOf r c
+printed r c hc hr = omega (arith, decimal r c, least c r hc hr)
+
+pub decimal-small : (r c : ℕ) → getD (getD decimals r []) c 0 ≤ 100
+decimal-small r c = omega (arith, decimal r c, small r c)
+
+-- outside the table stands 0
 pub outside-row : (r c : ℕ) → 16 ≤ r → 0 ≡ entryOf r c
 unfolding entryOf table
 outside-row r c h = rw (List·getD-eq-default table [] {n = r} h) refl
 
--- past the last column only zeros
 abbrev short-row : List ℕ → Bool
 short-row row = leb (length row) 14
 
-no-entries : (rows : List (List ℕ)) (col : ℕ) → T (all short-row rows) → 14 ≤ col → replicate (length rows) (hundredths 0) ≡ columnIn rows col
-unfolding columnIn
-no-entries [] col t h = refl
-no-entries (row ∷ rows) col t h =
-    let short = leb→le (length row) 14 (also-left (short-row row) (all short-row rows) t) in
-    let zero-here = List·getD-eq-default row 0 {n = col} (le-trans short h) in
-    let zeros-below = no-entries rows col (also-right (short-row row) (all short-row rows) t) h in
-    λ i. hundredths (sym zero-here i) ∷ zeros-below i
-
-pub no-column : (col : ℕ) → 14 ≤ col → replicate 16 (hundredths 0) ≡ columnIn table col
-unfolding table
-no-column col h = no-entries table col tt h
+pub outside-column : (r c : ℕ) → 14 ≤ c → 0 ≡ entryOf r c
+unfolding entryOf table
+outside-column r c h =
+    let short = leb→le (length (getD table r [])) 14 (entry short-row table [] tt tt r) in
+    rw (List·getD-eq-default (getD table r []) 0 {n = c} (le-trans short h)) refl
