@@ -18,7 +18,8 @@ def some_sheet(r):
         walk = r.randint(0, 150) if mode else 0
         clear = r.randint(y + d - (r.random() < 0.02), 300) if mode == 2 else r.randint(0, 200) if mode else 0
         lines.append('phase=%d,%d,%d,%d,%d,%d,%d,%d' % (n, r.randint(0, 200), r.randint(0, 50), y, d, walk, clear, mode))
-    l18, l19 = r.randint(0, 200), r.randint(1, 120)
+    # a third of the sheets have their distances past 400 ft, and some of those beyond 1000
+    l18, l19 = r.choice([(r.randint(0, 200), r.randint(1, 120)), (r.randint(0, 200), r.randint(1, 120)), (r.randint(150, 1000), r.choice([r.randint(1, 120), r.randint(250, 400)]))])
     l47, l20 = r.randint(0, l18), r.randint(1, 150)
     l31 = max(0, -(-(l19 - 35) // 10) * 10) + r.choice([0, 0, 5, 30]) - (r.random() < 0.05)
     named = sorted(r.sample(phases, r.randint(0, len(phases))))
@@ -30,7 +31,8 @@ def some_sheet(r):
               'l28=%d' % r.randint(0, 200), 'l30=%d' % r.randint(200, 400), 'l31=%d' % max(l31, 0), 'l33=%d' % l33,
               'l37=%d' % r.randint(100, 200), 'l39=%d' % l39, 'l47=%d' % l47, 'l56=%d' % r.randint(30, 200),
               'l57=%d' % r.randint(1, 999), 'l58=%d' % r.randint(0, 100)]
-    feet = sorted(r.sample(range(1, 400), r.randint(0, 14)) + [max(r.randint(300, 400), min(400, l19 + l20 + l47))])
+    last = max(r.randint(300, 400), min(400, l19 + l20 + l47)) - (r.random() < 0.02)
+    feet = sorted(r.sample(range(1, last), r.randint(0, 14)) + [last])
     feet = [0] + sorted(set(feet))
     times, t = [], 0
     for f in feet:

@@ -10,6 +10,8 @@ tests/compare and compare_convert run the built programs against it on many shee
 from fractions import Fraction
 from math import ceil, floor
 
+import equation
+
 # Table 628-B in hundredths: a line for each distance, columns SU 2 4 6 8, bus 1 2 4 6 8, WB-50 0 2 4 6 8 percent
 TABLE = """
 25 100 106 113 119 100 101 110 119 128 100 109 127 142 155
@@ -30,6 +32,8 @@ TABLE = """
 400 100 115 132 150 100 106 123 140 157 100 115 140 163 185
 """
 ROWS = {int(l.split()[0]): [int(x) for x in l.split()[1:]] for l in TABLE.strip().split('\n')}
+# the far times, worked out from the equation: the car's, then columns as in Table 628-B
+FAR = equation.table()
 COLUMNS = {'su': ([20, 40, 60, 80], 0), 'bus': ([10, 20, 40, 60, 80], 4), 'wb50': ([0, 20, 40, 60, 80], 9)}
 
 
@@ -64,16 +68,34 @@ def level(points, feet):
     return points[-1][1]
 
 
-def acceleration(sheet, grade, feet):
+def by_curve(sheet, grade, feet):
     return ceil(level(sheet['point'], feet) * factor(sheet['vehicle'], grade, feet))
+
+
+def far(vehicle, grade, feet):
+    """'straight between entries': exact, in tenths"""
+    def at_row(d):
+        if vehicle == 'car':
+            return Fraction(FAR[d][0])
+        marks, first = COLUMNS[vehicle]
+        return between(grade if grade >= 10 else marks[0], marks, lambda g: Fraction(FAR[d][1 + first + marks.index(g)]))
+    return between(feet, sorted(FAR), at_row)
+
+
+def acceleration(sheet, grade, feet):
+    """'Between 400 and 425 the time runs straight from the entered curve's graded time at 400'"""
+    if feet <= 400:
+        return by_curve(sheet, grade, feet)
+    ends = {400: Fraction(by_curve(sheet, grade, 400)), 425: far(sheet['vehicle'], grade, 425)}
+    return ceil(between(feet, [400, 425], ends.get) if feet < 425 else far(sheet['vehicle'], grade, feet))
 
 
 HEAD = ('issue', 'vehicle', 'grade', 'grade2', 'l01', 'l02', 'phases')
 MIDDLE = ('l18', 'l19', 'l20', 'l28', 'l30', 'l31', 'l33', 'l37', 'l39', 'l47', 'l56', 'l57', 'l58', 'points')
 VEHICLES = ('car', 'su', 'bus', 'wb50')
 SIGNED = ('grade', 'grade2')
-SINGLE = {'l01': (0, 999), 'l02': (1, 999), 'phases': (1, 8), 'l18': (0, 400), 'l19': (1, 400), 'l20': (1, 150), 'l28': (0, 999),
-          'l30': (200, 999), 'l31': (0, 999), 'l33': (0, 999), 'l37': (100, 999), 'l39': (0, 999), 'l47': (0, 400),
+SINGLE = {'l01': (0, 999), 'l02': (1, 999), 'phases': (1, 8), 'l18': (0, 1000), 'l19': (1, 400), 'l20': (1, 150), 'l28': (0, 999),
+          'l30': (200, 999), 'l31': (0, 999), 'l33': (0, 999), 'l37': (100, 999), 'l39': (0, 999), 'l47': (0, 1000),
           'l56': (30, 999), 'l57': (1, 999), 'l58': (0, 100), 'points': (2, 16), 'issue': (1, 65535), 'grade': (-80, 80),
           'grade2': (-80, 80)}
 MOST_PHASES = 8
@@ -190,7 +212,8 @@ def read(text, older=False):
         raise Refused(7, 0)
     if sheet['l31'] < 10 * ceil(Fraction(max(sheet['l19'] - 35, 0), 10)):
         raise Refused(8, 0)
-    if sheet['l19'] + sheet['l20'] + sheet['l47'] > sheet['point'][-1][0]:
+    last = sheet['point'][-1][0]
+    if sheet['l19'] + sheet['l20'] + sheet['l47'] > (last if last < 400 else 1000):
         raise Refused(9, 0)
     if sum(sheet['track']) > worst(sheet)[2]:
         raise Refused(10, 0)

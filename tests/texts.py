@@ -54,6 +54,23 @@ def two_grades():
             yield '%s, grade %d and grade2 %d' % (vehicle, grade, grade2), text, 0, 0
 
 
+def far_out():
+    """the acceleration time past 400 ft, by the curve 0,0 and 400,320, as line 49 has it; the times are worked out by hand from the far table"""
+    for vehicle, times in (('wb50', [(0, 400, 320), (0, 401, 319), (0, 424, 295), (10, 412, 331), (10, 415, 327), (40, 410, 434), (40, 425, 412), (35, 610, 497), (80, 1000, 1048)]),
+                           ('bus', [(10, 500, 215), (15, 510, 227), (-80, 999, 328)]), ('su', [(20, 437, 184), (21, 437, 185), (79, 988, 524)]),
+                           ('car', [(0, 450, 152), (80, 451, 153)])):
+        for grade2, feet, tenths in times:
+            lines = [b'vehicle=' + vehicle.encode(), b'grade2=%d' % grade2, b'l18=1000', b'l47=%d' % (feet - 96), b'points=2']
+            text = both((2, lines[0]), (4, lines[1]), (12, lines[2]), (21, lines[3]), (25, lines[4]), lines=LINES[:26] + LINES[27:])
+            assert reference.worksheet(reference.read(text))[48] == tenths, (vehicle, grade2, feet)
+            yield '%s, grade2 %d, line 48 of %d ft' % (vehicle, grade2, feet), text, 0, 0
+    # line 23 past 400 ft, and line 24 with it
+    for l20, tenths in ((10, 310), (25, 293), (150, 339)):
+        text = both((13, b'l19=400'), (14, b'l20=%d' % l20), (17, b'l31=370'))
+        assert reference.worksheet(reference.read(text))[23] == tenths
+        yield 'line 23 of %d ft' % (400 + l20), text, 0, 0
+
+
 CASES = [
     ('the paper\'s sheet', SHEET, 0, 0),
     ('empty text', b'', 1, 1),
@@ -160,7 +177,23 @@ CASES = [
     ('l19=36 and l31=0', both((13, b'l19=36'), (17, b'l31=0')), 8, 0),
     ('line 48 one foot beyond', put(28, b'point=155,320'), 9, 0),
     ('line 48 at the last point', put(28, b'point=156,320'), 0, 0),
-    ('line 48 far beyond', both((12, b'l18=400'), (21, b'l47=305')), 9, 0),
+    # "9 is now given when line 48 is beyond 1000, or beyond the last point where that point is below 400"
+    ('line 48 of 401 ft', both((12, b'l18=400'), (21, b'l47=305')), 0, 0),
+    ('line 48 of 424 ft', both((12, b'l18=400'), (21, b'l47=328')), 0, 0),
+    ('line 48 of 425 ft', both((12, b'l18=400'), (21, b'l47=329')), 0, 0),
+    ('line 48 of 1000 ft', both((12, b'l18=904'), (21, b'l47=904')), 0, 0),
+    ('line 48 of 1001 ft', both((12, b'l18=905'), (21, b'l47=905')), 9, 0),
+    ('line 48 of 1096 ft', both((12, b'l18=1000'), (21, b'l47=1000')), 9, 0),
+    ('l18 of 1000', put(12, b'l18=1000'), 0, 0),
+    ('l18 of 1001', put(12, b'l18=1001'), 2, 12),
+    ('l47 of 1001', both((12, b'l18=1000'), (21, b'l47=1001')), 2, 21),
+    ('l19 of 401', both((13, b'l19=401'), (17, b'l31=370')), 2, 13),
+    ('l20 of 151', put(14, b'l20=151'), 2, 14),
+    ('a point at 401 ft', put(28, b'point=401,320'), 2, 28),
+    ('last point 399, line 48 of 399 ft', both((12, b'l18=400'), (21, b'l47=303'), (28, b'point=399,320')), 0, 0),
+    ('last point 399, line 48 of 400 ft', both((12, b'l18=400'), (21, b'l47=304'), (28, b'point=399,320')), 9, 0),
+    ('last point 399, line 48 of 1001 ft', both((12, b'l18=905'), (21, b'l47=905'), (28, b'point=399,320')), 9, 0),
+    *far_out(),
     ('track yellow + red above line 16', joined(LINES[:6] + [b'phases=1', b'phase=2,10,0,40,0,0,0,0', b'track=40,11'] + LINES[10:]), 10, 0),
     ('track yellow + red at line 16', joined(LINES[:6] + [b'phases=1', b'phase=2,10,0,40,0,0,0,0', b'track=40,10'] + LINES[10:]), 0, 0),
     ('track 60,60 on a short phase', joined(LINES[:6] + [b'phases=1', b'phase=2,0,0,30,0,0,0,0', b'track=60,60'] + LINES[10:]), 10, 0),

@@ -2,7 +2,7 @@
 
 use crate::product::Numbers;
 use crate::random::Random;
-use crate::sheets::{joined, listed, longest_transfer, ranges, warning, KEYS};
+use crate::sheets::{farthest, joined, listed, longest_transfer, ranges, warning, KEYS};
 use crate::sheets::{DWELL, L18, L19, L20, L31, L47, PHASES, POINTS, TRACK};
 
 /// The ends of a range, and the numbers just past them.
@@ -41,12 +41,12 @@ pub fn rule(random: &mut Random, n: &mut Numbers) {
             n[phase + 7] = 2;
             n[phase + 6] = n[phase + 3] + n[phase + 4] - over;
         }
-        4 => n[L47] = (n[L18] + over).min(400),
+        4 => n[L47] = (n[L18] + over).min(1000),
         5 => n[L31] = warning(n[L19]).saturating_sub(over),
         6 => {
-            let last = n[POINTS + 2 * (points - 1)];
+            let last = farthest(n[POINTS + 2 * (points - 1)]);
             n[L47] = (last + over).saturating_sub(n[L19] + n[L20]);
-            n[L18] = n[L18].max(n[L47]).min(400);
+            n[L18] = n[L18].max(n[L47]).min(1000);
         }
         // numbers for dwell that need not rise
         7 => {

@@ -31,7 +31,7 @@ pub const KEYS: [(&str, &[(u32, u32)]); 25] = [
     ("phase", &[(1, 8), (0, 999), (0, 999), (30, 60), (0, 60), (0, 999), (0, 999), (0, 2)]),
     ("track", &[(30, 60), (0, 60)]),
     ("dwell", &[(0, 8), (1, 8), (1, 8), (1, 8), (1, 8), (1, 8), (1, 8), (1, 8), (1, 8)]),
-    ("l18", &[(0, 400)]),
+    ("l18", &[(0, 1000)]),
     ("l19", &[(1, 400)]),
     ("l20", &[(1, 150)]),
     ("l28", &[(0, 999)]),
@@ -40,7 +40,7 @@ pub const KEYS: [(&str, &[(u32, u32)]); 25] = [
     ("l33", &[(0, 999)]),
     ("l37", &[(100, 999)]),
     ("l39", &[(0, 999)]),
-    ("l47", &[(0, 400)]),
+    ("l47", &[(0, 1000)]),
     ("l56", &[(30, 999)]),
     ("l57", &[(1, 999)]),
     ("l58", &[(0, 100)]),
@@ -146,7 +146,12 @@ pub fn accepted(random: &mut Random, times: Times) -> Numbers {
 
     let count = random.within(2, 16) as usize;
     n[POINTS - 1] = count as u32;
-    let reach = random.within((count as u32 - 1).max(2), times.at_most(40, 400));
+    // a third of the curves reach 400 ft, and the far times go on to 1000
+    let reach = if random.one_in(3) {
+        times.at_most(40, 400)
+    } else {
+        random.within((count as u32 - 1).max(2), times.at_most(40, 400))
+    };
     let mut tenths: Vec<u32> = (1..count).map(|_| random.within(0, times.at_most(30, 9999))).collect();
     tenths.sort_unstable();
     for (i, feet) in rising(random, count - 1, reach).into_iter().enumerate() {
@@ -154,16 +159,25 @@ pub fn accepted(random: &mut Random, times: Times) -> Numbers {
         n[POINTS + 2 * (i + 1) + 1] = tenths[i];
     }
 
-    // lines 19, 20 and 47 come to no more than the last point
-    n[L20] = random.within(1, (reach - 1).min(150));
-    n[L19] = random.within(1, reach - n[L20]);
-    n[L47] = random.within(0, reach - n[L20] - n[L19]);
-    n[L18] = random.within(n[L47], times.at_most(40, 400));
+    let farthest = farthest(reach);
+    n[L20] = random.within(1, (farthest - 1).min(150));
+    n[L19] = random.within(1, (farthest - n[L20]).min(400));
+    n[L47] = random.within(0, farthest - n[L20] - n[L19]);
+    n[L18] = random.within(n[L47], times.at_most(40, 1000));
     n[L31] = random.within(warning(n[L19]), 999);
     let longest = longest_transfer(&n);
     n[TRACK] = random.within(30, longest.min(60));
     n[TRACK + 1] = random.within(0, (longest - n[TRACK]).min(60));
     n
+}
+
+/// What lines 19, 20 and 47 come to at most: no more than the last point, or 1000 where that is 400.
+pub fn farthest(last: u32) -> u32 {
+    if last < 400 {
+        last
+    } else {
+        1000
+    }
 }
 
 /// The least line 31 of a line 19.

@@ -10,6 +10,7 @@
 #![forbid(unsafe_code)]
 
 pub mod factor;
+pub mod far;
 pub mod reader;
 pub mod sheet;
 pub mod unit;

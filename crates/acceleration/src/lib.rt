@@ -1,9 +1,9 @@
-// The acceleration time: the level time by the points, times the factor.
+// The acceleration time: to 400 ft the level time by the points, times the factor; from 425 ft the far time; between them straight from the one to the other.
 ghost use mathlib.Core.Path.{_≡_};
 ghost use Prim.Native.Nat.{_≤_};
 ghost use lib.ListN.{take};
-ghost use Rattle.curve.specs.Curve.{accelerationOf, betweenOf, gradedOf, levelOf};
-use factor::Fraction;
+ghost use Rattle.curve.specs.Curve.{accelerationOf, betweenOf, curveTimeOf, gradedOf, joinedOf, levelOf};
+use scale::Fraction;
 use sheet::Point;
 use sheet::Vehicle;
 use units::Feet;
@@ -50,6 +50,24 @@ fn graded(factor: Fraction, time: Tenths) -> Tenths
     Tenths(units::div_up(time.0 * factor.over, factor.under))
 }
 
+// By the sheet's points alone: the level time on the grade.
+fn by_curve(points: [Point; 16], count: u32, vehicle: Vehicle, grade: i16, distance: Feet) -> Tenths
+    ensures { λ r. ⌜ (r ≡ curveTimeOf (take count points) vehicle grade distance) × (r .0 ≤ 8589934590) ⌝ }
+{
+    let time = level_time(points, count, distance);
+    graded(grade_factor::factor(vehicle, grade, distance), time)
+}
+
+// Straight from the time at 400 ft to the exact one at 425, taken up once.
+fn joined(start: Tenths, end: Fraction, distance: Feet) -> Tenths
+    requires { ⌜ (start .0 ≤ 8589934590) × (end .over ≤ 524000) × (end .under ≤ 500) × (400 ≤ distance .0) × (distance .0 ≤ 425) ⌝ }
+    ensures { λ r. ⌜ r ≡ joinedOf start end distance ⌝ }
+{
+    let past = distance.0 - 400;
+    let over = (25 - past) * (start.0 * end.under) + past * end.over;
+    Tenths(units::div_up(over, 25 * end.under))
+}
+
 // The time to accelerate over a distance, on a grade.
 pub fn acceleration(
     points: [Point; 16],
@@ -60,6 +78,14 @@ pub fn acceleration(
 ) -> Tenths
     ensures { λ r. ⌜ r ≡ accelerationOf (take count points) vehicle grade distance ⌝ }
 {
-    let time = level_time(points, count, distance);
-    graded(grade_factor::factor(vehicle, grade, distance), time)
+    if distance.0 <= 400 {
+        return by_curve(points, count, vehicle, grade, distance);
+    }
+    if distance.0 < 425 {
+        let at_400 = by_curve(points, count, vehicle, grade, Feet(400));
+        let at_425 = far_time::far(vehicle, grade, Feet(425));
+        return joined(at_400, at_425, distance);
+    }
+    let far = far_time::far(vehicle, grade, distance);
+    Tenths(units::div_up(far.over, far.under))
 }

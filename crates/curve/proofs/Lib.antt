@@ -1,3 +1,4 @@
 pub mod Points
 pub mod Times
+pub mod Joined
 pub mod Cases

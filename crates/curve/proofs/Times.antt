@@ -1,22 +1,29 @@
 -- The laws of the level time and of the time on a grade: what `up` says of each, and along the points by induction. Assumes nothing.
-use mathlib.Core.Path.{_≡_, _∙_, ap}
+use mathlib.Core.Path.{_≡_, refl, _∙_, ap}
 use mathlib.Core.List.{List, [], _∷_}
 use Prim.Native.Nat.{ℕ, _-_, _*_, _<_, _≤_}
-use native.Mathlib.Nat.{add-mul, mul-le-mul-left, le-of-mul-le-mul-right, mul-assoc, mul-comm, mul-one, mul-zero, div-one, mul-div-cancel}
+use native.Mathlib.Nat.{add-mul, mul-le-mul-left, le-of-mul-le-mul-right, mul-assoc, mul-comm, mul-one, mul-zero, div-one}
 use native.Mathlib.Omega.{arith}
+use mathlib.Core.Bool.{true}
 use lib.Dec.{leb}
-use borrow.Author.Tests.{leb-true, le-leb, lt-leb}
-use Rattle.units.specs.Numbers.{up, pick, tenths}
+use lib.IntN.{ℤ, pos}
+use lib.Signed.{ltZ}
+use borrow.Author.Tests.{leb-true, le-leb, lt-leb, le-ltb}
+use Rattle.units.specs.Numbers.{up, TakenUp, pick, feet, tenths}
 use Rattle.units.specs.declared.Feet.{Feet}
 use Rattle.units.specs.declared.Tenths.{Tenths}
-use Rattle.units.proofs.Rounding.{up-part, up-le, up-enough, up-least, up-exact}
+use Rattle.units.proofs.Rounding.{up-part, up-le, up-enough, up-least, up-taken, up-product}
 use Rattle.units.proofs.Steps.{cases}
 use Rattle.sheet.specs.declared.Point.{Point}
+use Rattle.sheet.specs.declared.Vehicle.{Vehicle}
+use Rattle.sheet.specs.declared.Vehicle.the-variants.{Car}
 use Rattle.factor.specs.Factor.{one, factorOf}
 use Rattle.factor.proofs.Bounds.{factor-bounds, factor-slows, factor-two}
 use Rattle.factor.proofs.Ones.{one-for-cars, one-below-ten}
-use Rattle.curve.specs.Curve.{betweenOf, levelFrom, levelOf, gradedOf, accelerationOf}
-use Rattle.curve.specs.Promises.{OnTheLine, RisingFrom, Rising, Next, LevelOnTheLine, GradedTakenUp, AccelerationTakenUp, LevelForCars, LevelBelowTen, TimesWithin, LevelWithin, BetweenOnceAndTwice, AccelerationWithin}
+use Rattle.far.specs.Far.{farColumnOf, farOf, farTimeOf}
+use Rattle.far.proofs.Times.{far-never-falls}
+use Rattle.curve.specs.Curve.{betweenOf, levelFrom, levelOf, gradedOf, curveTimeOf, accelerationOf}
+use Rattle.curve.specs.Promises.{OnTheLine, RisingFrom, Rising, Next, LevelOnTheLine, GradedTakenUp, AsBeforeToFourHundred, FarFromFourTwentyFive, NeverFallsFarOut, AccelerationTakenUp, LevelForCars, LevelBelowTen, AnyGradeForCars, TimesWithin, LevelWithin, BetweenOnceAndTwice}
 use Rattle.curve.specs.Promises.Next.{here, later}
 
 -- between two points: taken up, and on the line
@@ -33,11 +40,6 @@ module _ (p q : Point) (d : Feet) (wide : p .feet < q .feet) where
       let pos : 0 < width = omega arith in
       let sum = add-mul (p .tenths) (up exact width) width in
       (omega (arith, sum, up-enough exact width pos), omega (arith, sum, up-least exact width pos))
-
-up-product : (a w : ℕ) → 0 < w → up (a * w) w ≡ a
-up-product a w pos =
-    let e = mul-div-cancel a {n = w} pos in
-    up-exact (a * w) w pos (ap (λ (n : ℕ). n * w) e) ∙ e
 
 -- at the second point it is that point's time
 at-second : (p q : Point) (d : Feet) → p .feet < q .feet → p .tenths ≤ q .tenths → d .0 ≡ q .feet → betweenOf p q d .0 ≡ q .tenths
@@ -99,35 +101,64 @@ pub graded-up : GradedTakenUp
 unfolding gradedOf
 graded-up v g d t =
     let f = factorOf v g d in
-    let pos = factor-bounds v g d .1 in
-    (up-enough (t .0 * f .over) (f .under) pos, up-least (t .0 * f .over) (f .under) pos)
+    up-taken (t .0 * f .over) (f .under) (factor-bounds v g d .1)
 
-pub acceleration-up : AccelerationTakenUp
-unfolding accelerationOf
-acceleration-up ps v g d = graded-up v g d (levelOf ps d)
+-- ---- document 01's time, by the curve alone
 
-pub once-and-twice : BetweenOnceAndTwice
-unfolding accelerationOf gradedOf
-once-and-twice ps v g d =
-    let t = levelOf ps d .0 in
-    let f = factorOf v g d in
-    let pos : 0 < f .under = factor-bounds v g d .1 in
-    let slow = mul-le-mul-left t (factor-slows v g d) in
-    let twice = mul-le-mul-left t (factor-two v g d) in
-    (le-of-mul-le-mul-right (omega (arith, up-enough (t * f .over) (f .under) pos)) pos, up-le (t * f .over) (f .under) (2 * t) pos (omega (arith, mul-assoc 2 t (f .under), mul-assoc t 2 (f .under), mul-comm t 2)))
+module _ (ps : List Point) (v : Vehicle) (g : ℤ) (d : Feet) where
+  curve-up : TakenUp (levelOf ps d .0 * factorOf v g d .over) (factorOf v g d .under) (curveTimeOf ps v g d .0)
+  unfolding curveTimeOf
+  curve-up = graded-up v g d (levelOf ps d)
 
-pub acceleration-le : AccelerationWithin
-acceleration-le ps v g d h = omega (arith, once-and-twice ps v g d, level-le 9999 ps d h)
+  pub curve-once-and-twice : (levelOf ps d .0 ≤ curveTimeOf ps v g d .0) × (curveTimeOf ps v g d .0 ≤ 2 * levelOf ps d .0)
+  unfolding curveTimeOf gradedOf
+  curve-once-and-twice =
+      let t = levelOf ps d .0 in
+      let f = factorOf v g d in
+      let pos : 0 < f .under = factor-bounds v g d .1 in
+      let slow = mul-le-mul-left t (factor-slows v g d) in
+      let twice = mul-le-mul-left t (factor-two v g d) in
+      (le-of-mul-le-mul-right (omega (arith, up-enough (t * f .over) (f .under) pos)) pos, up-le (t * f .over) (f .under) (2 * t) pos (omega (arith, mul-assoc 2 t (f .under), mul-assoc t 2 (f .under), mul-comm t 2)))
 
 -- times 1 is itself
 graded-one : (t : Tenths) → gradedOf one t ≡ t
 unfolding gradedOf up
 graded-one t = ap tenths (rw (mul-one, div-one) (omega arith))
 
+curve-for-cars : (ps : List Point) (g : ℤ) (d : Feet) → curveTimeOf ps Car g d ≡ levelOf ps d
+unfolding curveTimeOf
+curve-for-cars ps g d = rw (one-for-cars g d) (graded-one (levelOf ps d))
+
+curve-below-ten : (ps : List Point) (v : Vehicle) (g : ℤ) (d : Feet) → ltZ g (pos 10) ≡ true → curveTimeOf ps v g d ≡ levelOf ps d
+unfolding curveTimeOf
+curve-below-ten ps v g d h = rw (one-below-ten v g d h) (graded-one (levelOf ps d))
+
+-- ---- and where the acceleration time is that, the joined one or the far one
+
+pub as-before : AsBeforeToFourHundred
+unfolding accelerationOf pick
+as-before ps v g d h = rw (le-leb (d .0) 400 h) refl
+
+pub far-from : FarFromFourTwentyFive
+unfolding accelerationOf pick
+far-from ps v g d h = rw (lt-leb (d .0) 400 (omega arith), le-ltb (d .0) 425 h) refl
+
+pub acceleration-up : AccelerationTakenUp
+acceleration-up ps v g d h = rw (as-before ps v g d h) (curve-up ps v g d)
+
+pub once-and-twice : BetweenOnceAndTwice
+once-and-twice ps v g d h = rw (as-before ps v g d h) (curve-once-and-twice ps v g d)
+
 pub level-for-cars : LevelForCars
-unfolding accelerationOf
-level-for-cars ps g d = rw (one-for-cars g d) (graded-one (levelOf ps d))
+level-for-cars ps g d h = as-before ps Car g d h ∙ curve-for-cars ps g d
 
 pub level-below-ten : LevelBelowTen
-unfolding accelerationOf
-level-below-ten ps v g d h = rw (one-below-ten v g d h) (graded-one (levelOf ps d))
+level-below-ten ps v g d b h = as-before ps v g d h ∙ curve-below-ten ps v g d b
+
+pub never-falls : NeverFallsFarOut
+never-falls ps v g d e from le to =
+    rw (far-from ps v g d from, far-from ps v g e (omega arith)) (far-never-falls v g d e from le to)
+
+pub any-grade : AnyGradeForCars
+unfolding accelerationOf curveTimeOf factorOf farTimeOf farOf farColumnOf pick
+any-grade ps g h d = refl

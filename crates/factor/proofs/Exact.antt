@@ -2,9 +2,10 @@
 use mathlib.Core.Path.{refl}
 use Rattle.units.specs.Numbers.{pick}
 use Rattle.table.specs.Table.{table, entryOf}
-use Rattle.factor.specs.Factor.{climb, placeOn, rowOf, columnOf, mixOf, lineOf, tableOf, factorOf}
+use Rattle.scale.specs.Scale.{climb, placeOn, columnOf, mixOf, lineOf, spreadOf}
+use Rattle.factor.specs.Factor.{rowOf, tableOf, factorOf}
 use Rattle.factor.specs.Promises.{FactorIsExact}
 
 pub exact : FactorIsExact
-unfolding factorOf climb tableOf lineOf mixOf entryOf table columnOf rowOf placeOn pick
+unfolding factorOf climb tableOf spreadOf lineOf mixOf entryOf table columnOf rowOf placeOn pick
 exact = (refl, refl, refl)

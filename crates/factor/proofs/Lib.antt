@@ -1,5 +1,4 @@
-pub mod Signs
-pub mod Places
+pub mod Rows
 pub mod Bounds
 pub mod Ones
 pub mod Exact

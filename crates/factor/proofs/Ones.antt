@@ -1,23 +1,24 @@
 -- Where the factor is 1, by the definition's two tests and by a column that has 1 in every row; and that it does not change below 25 ft. Assumes nothing.
-use mathlib.Core.Path.{_≡_, refl, sym, ap}
+use mathlib.Core.Path.{_≡_, refl, ap}
 use mathlib.Core.Bool.{Bool}
-use Prim.Native.Nat.{ℕ, _<_, _≤_, min}
+use Prim.Native.Nat.{ℕ, min}
 use native.Mathlib.Omega.{arith}
 use lib.Dec.{T, eqb, ltb, eqb→eq}
-use lib.IntN.{ℤ, pos}
 use borrow.Author.Tests.{ltb-false}
-use Rattle.units.specs.Numbers.{pick, feet}
+use Rattle.units.specs.Numbers.{pick}
 use Rattle.units.specs.declared.Feet.{Feet}
 use Rattle.units.proofs.Steps.{cases}
 use Rattle.units.proofs.Tested.{allBelow, at}
 use Rattle.sheet.specs.declared.Vehicle.the-variants.{Su, Bus}
-use Rattle.factor.specs.declared.Fraction.{Fraction}
-use Rattle.factor.specs.declared.Place.{Place}
 use Rattle.table.specs.Table.{table, entryOf}
-use Rattle.factor.specs.Factor.{climb, isCar, one, placed, placeOn, rowOf, columnOf, mixOf, lineOf, tableOf, factorOf}
+use Rattle.scale.specs.declared.Fraction.{Fraction}
+use Rattle.scale.specs.declared.Place.{Place}
+use Rattle.scale.specs.Scale.{climb, isCar, placed, placeOn, columnOf, mixOf, lineOf, spreadOf}
+use Rattle.scale.proofs.Signs.{climbs-less}
+use Rattle.scale.proofs.Promised.{first-column}
+use Rattle.factor.specs.Factor.{one, rowOf, tableOf, factorOf}
 use Rattle.factor.specs.Promises.{OneForCars, OneBelowTen, OneForSuUpToTwo, OneForBusAtOne, RowTwentyFive}
-use Rattle.factor.proofs.Signs.{climbs-less}
-use Rattle.factor.proofs.Places.{row-held, column-low}
+use Rattle.factor.proofs.Rows.{row-held}
 
 pub one-for-cars : OneForCars
 unfolding factorOf pick
@@ -39,12 +40,8 @@ IsOne f = f .over ≡ f .under
 one-at : (c : Place) → T (allBelow (isOne c) 401) → (d : Feet) → IsOne (tableOf c (rowOf (min (d .0) 400)))
 one-at c t d = eqb→eq _ _ (at (isOne c) 401 t (min (d .0) 400) (omega arith))
 
-su-low : (g : ℕ) → g ≤ 20 → placed 0 0 20 ≡ columnOf Su g
-unfolding columnOf placeOn pick
-su-low g h = column-low Su (λ (k : ℕ). placed 0 0 20) tt g h
-
 su-one : T (allBelow (isOne (placed 0 0 20)) 401)
-unfolding tableOf lineOf mixOf entryOf table rowOf placeOn pick
+unfolding tableOf spreadOf lineOf mixOf entryOf table rowOf placeOn pick
 su-one = tt
 
 pub one-for-su : OneForSuUpToTwo
@@ -52,10 +49,10 @@ unfolding factorOf
 one-for-su g d h =
     cases IsOne (isCar Su) one _ (λ e. refl)
     (λ e. cases IsOne _ one _ (λ e. refl)
-    (λ e. rw (sym (su-low (min (climb g) 80) (omega (arith, climbs-less 21 (omega arith) g h)))) (one-at (placed 0 0 20) su-one d)))
+    (λ e. rw (first-column .0 (min (climb g) 80) (omega (arith, climbs-less 21 (omega arith) g h))) (one-at (placed 0 0 20) su-one d)))
 
 bus-one : T (allBelow (isOne (columnOf Bus 10)) 401)
-unfolding columnOf tableOf lineOf mixOf entryOf table rowOf placeOn pick
+unfolding columnOf tableOf spreadOf lineOf mixOf entryOf table rowOf placeOn pick
 bus-one = tt
 
 pub one-for-bus : OneForBusAtOne

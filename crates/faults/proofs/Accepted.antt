@@ -2,7 +2,7 @@
 use mathlib.Core.Path.{_≡_, refl, sym, _∙_, subst}
 use mathlib.Core.Bool.{Bool, true, false}
 use mathlib.Core.List.{List, [], _∷_}
-use Prim.Native.Nat.{ℕ, zero, suc, zero-le, _+_, _-_, _*_, _<_, _≤_}
+use Prim.Native.Nat.{ℕ, zero, suc, zero-le, _+_, _-_, _<_, _≤_}
 use native.Mathlib.Numerals.{add-one}
 use native.Mathlib.Nat.{not-suc-le-zero}
 use native.Mathlib.Omega.{arith}
@@ -27,8 +27,9 @@ use Rattle.rows.specs.Table.{Range, _to_, list, none, kinds, rows, kindOf, form
 use Rattle.rows.proofs.Tables.{dwell-place}
 use Rattle.numbers.specs.Flat.{vehicleNumber, numbersFrom, flatOf, phasePlace, pointPlace}
 use Rattle.faults.specs.Lines.{risesAfter, ruleFault, rowFault, hereFault, lineAfter, faultFrom, linesFault}
-use Rattle.faults.specs.Whole.{wholeFault, acceptOf}
+use Rattle.faults.specs.Whole.{line48, lastPoint, wholeFault, acceptOf}
 use Rattle.faults.specs.Ranges.{Between, SoundPhase, SoundPoint, Sound, SoundIsAccepted, AcceptedWhenSound}
+use Rattle.faults.proofs.Farthest.{reaches}
 use Rattle.faults.proofs.Rules.{phase-fine, at-zero-holds, point-rises-holds}
 use Rattle.faults.proofs.Lists.{steps-rise, each-listed}
 use Rattle.faults.proofs.Sound.{phase-in, point-in, dwell-in, dwellEntries, dwell-used, dwell-rule, dwell-entry, dwell-long, dwell-count-range, dwell-range, phases-at, points-at, phase-kind, phase-place, point-kind, point-place, used-by, before, fitting, phase-rule, point-rule, sound}
@@ -229,7 +230,7 @@ module _ (s : Sheet) (shaped : Shaped s) (h : Sound s) where
   whole =
       let storage = h .storage in
       let warning = h .warning in
-      let distance = h .distance in
+      let distance = reaches (lastPoint s) (line48 s) (h .distance) in
       let track = h .track in
       let listed = each-listed (listedPhases s) (dwellNumbers s) (h .dwellListed) in
       fine-both _ _ (holds _ _ _ (search steps))

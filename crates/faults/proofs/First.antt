@@ -19,7 +19,8 @@ use Rattle.sheet.specs.Refusals.{orElse}
 use Rattle.sheet.proofs.Answers.{fine-or, bad-or, holds, fails}
 use Rattle.rows.specs.Table.{usedRanges, placeOf, inRanges}
 use Rattle.faults.specs.Lines.{quietInModeZero, clearsYellowAndRed, phaseFault, risesAfter, rowFault}
-use Rattle.faults.specs.Whole.{allListed, wholeFault, acceptOf}
+use Rattle.faults.specs.Whole.{line48, lastPoint, allListed, wholeFault, acceptOf}
+use Rattle.faults.proofs.Farthest.{not-below, too-far, not-too-far}
 use Rattle.faults.proofs.Rules.{quiet-holds, clears-holds}
 use Rattle.faults.proofs.Lists.{rise-steps, steps-rise, one-missing, missing-fails}
 use Rattle.faults.specs.First.{RowIsFirst, PhaseIsFirst, Falls, ListIsFirst, Unlisted, FirstOfSevenToTwelve, WholeIsFirst, AcceptIsFirst}
@@ -31,9 +32,6 @@ refused-first a b r l e = rw e refl
 passed-first : (a b c : Answer) → a ≡ Fine → b ≡ c → orElse a b ≡ c
 unfolding orElse
 passed-first a b c e f = rw e f
-
-not-below : (a b : ℕ) → (a < b → ⊥) → b ≤ a
-not-below a b n = omega arith
 
 ruleset verdict = (refused-first, passed-first, holds, fails, le-leb, lt-leb, not-below)
 
@@ -119,7 +117,7 @@ no-unlisted s none =
 pub whole-is-first : WholeIsFirst
 unfolding wholeFault
 whole-is-first s =
-    (λ seven. search verdict, λ no7. (λ eight. search verdict, λ no8. (λ nine. search verdict, λ no9. (λ ten. search verdict, λ no10. (λ twelve. let missing = unlisted-fails s twelve in search verdict, λ no12. let listed = no-unlisted s no12 in search verdict)))))
+    (λ seven. search verdict, λ no7. (λ eight. search verdict, λ no8. (λ nine. let far = too-far (lastPoint s) (line48 s) nine in search verdict, λ no9. let near = not-too-far (lastPoint s) (line48 s) no9 in (λ ten. search verdict, λ no10. (λ twelve. let missing = unlisted-fails s twelve in search verdict, λ no12. let listed = no-unlisted s no12 in search verdict)))))
 
 pub accept-is-first : AcceptIsFirst
 unfolding acceptOf

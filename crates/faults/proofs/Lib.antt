@@ -3,6 +3,7 @@ pub mod Values
 pub mod Rows
 pub mod Rules
 pub mod Lists
+pub mod Farthest
 pub mod Sound
 pub mod Accepted
 pub mod First

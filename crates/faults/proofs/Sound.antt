@@ -2,7 +2,7 @@
 use mathlib.Core.Path.{_≡_, refl, ap, subst, _∙_}
 use mathlib.Core.Bool.{Bool, true, false}
 use mathlib.Core.List.{List, _∷_}
-use Prim.Native.Nat.{ℕ, zero, suc, _+_, _-_, _*_, _<_, _≤_}
+use Prim.Native.Nat.{ℕ, zero, suc, _+_, _-_, _<_, _≤_}
 use native.Mathlib.Numerals.{add-one}
 use native.Mathlib.Omega.{arith}
 use lib.Dec.{eqb, eqb→eq}
@@ -21,13 +21,14 @@ use Rattle.sheet.specs.Refusals.{unless}
 use Rattle.sheet.specs.Entries.{listedPhases, dwellNumbers, nthPhase, nthPoint}
 use Rattle.sheet.specs.Zero.{zeroPhase, zeroPoint}
 use Rattle.sheet.proofs.Answers.{both-fine, passes}
-use Rattle.rows.specs.Table.{_to_, list, none, kinds, rows, kindOf, formOf, rangesOf, rangeOf, widthOf, placeOf, usedRanges, inRanges, present, rowCount, mostPhases, mostPoints, placeFor, rowFor, firstPhase, firstPoint, phaseKind, pointKind}
+use Rattle.rows.specs.Table.{_to_, list, none, kinds, kindOf, formOf, rangesOf, rangeOf, widthOf, placeOf, usedRanges, inRanges, present, rowCount, mostPhases, mostPoints, placeFor, rowFor, firstPhase, firstPoint, phaseKind, pointKind}
 use Rattle.rows.proofs.Tables.{dwell-place}
 use Rattle.numbers.specs.Flat.{phasePlace, pointPlace, numbersFrom, flatOf, phaseAt, pointAt, entriesFrom}
 use Rattle.numbers.proofs.Entries.{entries-long, entries-at}
 use Rattle.faults.specs.Lines.{phaseFault, startsAtZero, pointRises, beforePhase, pointFits, listAt, risesAfter, ruleFault, linesFault}
-use Rattle.faults.specs.Whole.{allListed, wholeFault, acceptOf}
+use Rattle.faults.specs.Whole.{line48, lastPoint, allListed, wholeFault, acceptOf}
 use Rattle.faults.specs.Ranges.{Between, SoundPhase, SoundPoint, AcceptedIsSound}
+use Rattle.faults.proofs.Farthest.{within}
 use Rattle.faults.proofs.Rules.{PhaseKept, phase-kept, AtZero, at-zero, Rises, point-rises}
 use Rattle.faults.proofs.Lists.{rise-steps, listed-each}
 use Rattle.faults.proofs.Rows.{in-each, FineRow, fine-rows, row-ranges, row-rule}
@@ -349,7 +350,7 @@ sound s e =
       slower = λ i c. goes-on s l i (omega (arith, points .high)) c .tenths;
       storage = search (leb-true, passes);
       warning = search (leb-true, passes);
-      distance = search (leb-true, passes);
+      distance = within (lastPoint s) (line48 s) (search (leb-true, passes));
       track = search (leb-true, passes);
       dwellListed = listed-each (listedPhases s) (dwellNumbers s) named;
     }

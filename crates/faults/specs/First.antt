@@ -1,13 +1,14 @@
 -- Which refusal is given where several apply: "The first faulty line in file order decides, .. Then 7 to 11 in order".
 use Prim.Native.Nat.{ℕ, _+_, _<_, _≤_}
 use mathlib.Core.Path.{_≡_}
+use mathlib.Core.Logic.{_⊎_}
 use mathlib.Core.Bool.{true, false}
 use mathlib.Core.List.{List}
 use lib.ListN.{length, getD}
 use Rattle.sheet.specs.declared.Sheet.{Sheet}
 use Rattle.sheet.specs.declared.Phase.{Phase}
 use Rattle.sheet.specs.declared.Refusal.{Refusal}
-use Rattle.sheet.specs.declared.Refusal.the-variants.{OutOfRange, PhasesDontRise, PedestriansInModeZero, ClearanceTooShort, RelocationBeyondStorage, WarningTooShort, BeyondLastPoint, TrackLongerThanTransfer, DwellPhaseNotListed}
+use Rattle.sheet.specs.declared.Refusal.the-variants.{OutOfRange, PhasesDontRise, PedestriansInModeZero, ClearanceTooShort, RelocationBeyondStorage, WarningTooShort, RelocationTooFar, TrackLongerThanTransfer, DwellPhaseNotListed}
 use Rattle.sheet.specs.declared.Answer.{Answer}
 use Rattle.sheet.specs.declared.Answer.the-variants.{Fine, Refused}
 use Rattle.sheet.specs.Entries.{listedPhases, named}
@@ -67,8 +68,8 @@ FirstOfSevenToTwelve s =
     Given (s .l18 < s .l47) RelocationBeyondStorage 0
     -- "l31 below one second for each 10 ft, or part, of l19 beyond 35 ft"
     (Given (s .l31 < leastWarning (s .l19)) WarningTooShort 0
-    -- "line 48 beyond the last point"
-    (Given (lastPoint s < line48 s) BeyondLastPoint 0
+    -- "line 48 is beyond 1000, or beyond the last point where that point is below 400"
+    (Given ((1000 < line48 s) ⊎ ((lastPoint s < 400) × (lastPoint s < line48 s))) RelocationTooFar 0
     -- "track yellow + red above line 16"
     (Given (AboveSixteen (listedPhases s) (s .«track_yellow») (s .«track_red»)) TrackLongerThanTransfer 0
     -- "a dwell phase not listed on the sheet"

@@ -50,7 +50,7 @@ pub record Sound (s : Sheet) : Type 0 where
   pub dwell : All (λ (n : ℕ). Between 1 n 8) (dwellNumbers s)
   -- not refused 3: each is above the one before
   pub climbing : (i : ℕ) → i + 1 < s .«dwell_count» → getD (s .dwell) i 0 < getD (s .dwell) (i + 1) 0
-  pub l18 : s .l18 ≤ 400
+  pub l18 : s .l18 ≤ 1000
   pub l19 : Between 1 (s .l19) 400
   pub l20 : Between 1 (s .l20) 150
   pub l28 : s .l28 ≤ 999
@@ -59,7 +59,7 @@ pub record Sound (s : Sheet) : Type 0 where
   pub l33 : s .l33 ≤ 999
   pub l37 : Between 100 (s .l37) 999
   pub l39 : s .l39 ≤ 999
-  pub l47 : s .l47 ≤ 400
+  pub l47 : s .l47 ≤ 1000
   pub l56 : Between 30 (s .l56) 999
   pub l57 : Between 1 (s .l57) 999
   pub l58 : s .l58 ≤ 100
@@ -72,7 +72,7 @@ pub record Sound (s : Sheet) : Type 0 where
   -- not refused 7 to 10, not refused 12
   pub storage : s .l47 ≤ s .l18
   pub warning : leastWarning (s .l19) ≤ s .l31
-  pub distance : line48 s ≤ lastPoint s
+  pub distance : (line48 s ≤ 1000) × (lastPoint s < 400 → line48 s ≤ lastPoint s)
   pub track : WithinSixteen (listedPhases s) (s .«track_yellow») (s .«track_red»)
   pub dwellListed : (n : ℕ) → named s n ≡ true → listedIn (listedPhases s) n ≡ true
 

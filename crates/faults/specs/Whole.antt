@@ -2,12 +2,12 @@
 use Prim.Native.Nat.{ℕ, _+_, _-_, _*_}
 use mathlib.Core.Bool.{Bool, true, false}
 use mathlib.Core.List.{List, [], _∷_}
-use lib.Dec.{leb, eqb}
+use lib.Dec.{leb, ltb, eqb}
 use Rattle.units.specs.Numbers.{pick, up}
 use Rattle.sheet.specs.declared.Phase.{Phase}
 use Rattle.sheet.specs.declared.Sheet.{Sheet}
 use Rattle.sheet.specs.declared.Answer.{Answer}
-use Rattle.sheet.specs.declared.Refusal.the-variants.{RelocationBeyondStorage, WarningTooShort, BeyondLastPoint, TrackLongerThanTransfer, DwellPhaseNotListed}
+use Rattle.sheet.specs.declared.Refusal.the-variants.{RelocationBeyondStorage, WarningTooShort, RelocationTooFar, TrackLongerThanTransfer, DwellPhaseNotListed}
 use Rattle.sheet.specs.Refusals.{orElse, unless}
 use Rattle.sheet.specs.Entries.{listedPhases, dwellNumbers, nthPoint}
 use Rattle.transfer.specs.Transfer.{trackFits}
@@ -18,12 +18,16 @@ use Rattle.faults.specs.Lines.{linesFault}
 abbrev pub leastWarning : ℕ → ℕ
 leastWarning l19 = 10 * up (l19 - 35) 10
 
--- 9: "line 48 beyond the last point". Line 48 is 46 + 47, 46 is 23, and 23 is 19 + 20
+-- Line 48 is 46 + 47, 46 is 23, and 23 is 19 + 20
 abbrev pub line48 : Sheet → ℕ
 line48 s = s .l19 + s .l20 + s .l47
 
 abbrev pub lastPoint : Sheet → ℕ
 lastPoint s = nthPoint s (s .«point_count» - 1) .feet
+
+-- 9: "when line 48 is beyond 1000, or beyond the last point where that point is below 400" (request 2026-04): how far it may be
+unfoldable pub farthest : ℕ → ℕ
+farthest last = pick (ltb last 400) last 1000
 
 -- 12: "a dwell phase not listed on the sheet": a phase of that number is listed, and so of each of the numbers
 unfoldable pub listedIn : List Phase → ℕ → Bool
@@ -39,7 +43,7 @@ unfoldable pub wholeFault : Sheet → Answer
 wholeFault s =
     orElse (unless (leb (s .l47) (s .l18)) RelocationBeyondStorage 0)
     (orElse (unless (leb (leastWarning (s .l19)) (s .l31)) WarningTooShort 0)
-    (orElse (unless (leb (line48 s) (lastPoint s)) BeyondLastPoint 0)
+    (orElse (unless (leb (line48 s) (farthest (lastPoint s))) RelocationTooFar 0)
     (orElse (unless (trackFits (listedPhases s) (s .«track_yellow») (s .«track_red»)) TrackLongerThanTransfer 0)
     (unless (allListed (listedPhases s) (dwellNumbers s)) DwellPhaseNotListed 0))))
 

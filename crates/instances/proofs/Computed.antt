@@ -13,10 +13,11 @@ use Rattle.transfer.specs.Transfer.{pedestrianTime, timeOf, worseOf, worstFrom}
 use Rattle.rows.specs.Table.{kindOf, formOf, rangesOf, widthOf, placeOf, usedRanges, inRange, inRanges, present}
 use Rattle.numbers.specs.Flat.{gradeNumber, numbersFrom, flatOf}
 use Rattle.faults.specs.Lines.{quietInModeZero, clearsYellowAndRed, phaseFault, startsAtZero, pointRises, beforePhase, pointFits, risesAfter, ruleFault, rowFault, hereFault, lineAfter, faultFrom}
-use Rattle.faults.specs.Whole.{listedIn, allListed, wholeFault, acceptOf}
+use Rattle.faults.specs.Whole.{farthest, listedIn, allListed, wholeFault, acceptOf}
 use Rattle.table.specs.Table.{table, entryOf}
-use Rattle.factor.specs.Factor.{climb, placeOn, rowOf, columnOf, mixOf, lineOf, tableOf, factorOf}
-use Rattle.curve.specs.Curve.{betweenOf, levelFrom, levelOf, gradedOf, accelerationOf}
+use Rattle.scale.specs.Scale.{climb, placeOn, columnOf, mixOf, lineOf, spreadOf}
+use Rattle.factor.specs.Factor.{rowOf, tableOf, factorOf}
+use Rattle.curve.specs.Curve.{betweenOf, levelFrom, levelOf, gradedOf, curveTimeOf, accelerationOf}
 use Rattle.lines.specs.Cases.{sheetWith, paperSheet}
 use Rattle.lines.specs.Lines.{l03, l16, l17, l21, l22, l23, l24, l25, l29, l32, l34, l35, l36, l38, l40, l41, l43, l44, l45, l46, l48, l49, l50, l51, l52, l53, l54, l55, l59, l60, l61, linesOf}
 use Rattle.lines.specs.Worksheet.{worksheetOf}
@@ -105,7 +106,7 @@ pub record Worked : Type 0 where
   pub ten-lengths : ownLengths (phasesOf 9) ≡ paper
 
 pub worked : Worked
-unfolding up pick orElse unless pedestrianTime timeOf worseOf worstFrom kindOf formOf rangesOf widthOf placeOf usedRanges inRange inRanges present gradeNumber numbersFrom flatOf quietInModeZero clearsYellowAndRed phaseFault startsAtZero pointRises beforePhase pointFits risesAfter ruleFault rowFault hereFault lineAfter faultFrom listedIn allListed wholeFault acceptOf table entryOf climb placeOn rowOf columnOf mixOf lineOf tableOf factorOf betweenOf levelFrom levelOf gradedOf accelerationOf l03 l16 l17 l21 l22 l23 l24 l25 l29 l32 l34 l35 l36 l38 l40 l41 l43 l44 l45 l46 l48 l49 l50 l51 l52 l53 l54 l55 l59 l60 l61 linesOf worksheetOf sheetWith naming
+unfolding up pick orElse unless pedestrianTime timeOf worseOf worstFrom kindOf formOf rangesOf widthOf placeOf usedRanges inRange inRanges present gradeNumber numbersFrom flatOf quietInModeZero clearsYellowAndRed phaseFault startsAtZero pointRises beforePhase pointFits risesAfter ruleFault rowFault hereFault lineAfter faultFrom farthest listedIn allListed wholeFault acceptOf table entryOf climb placeOn rowOf columnOf mixOf lineOf spreadOf tableOf factorOf betweenOf levelFrom levelOf gradedOf curveTimeOf accelerationOf l03 l16 l17 l21 l22 l23 l24 l25 l29 l32 l34 l35 l36 l38 l40 l41 l43 l44 l45 l46 l48 l49 l50 l51 l52 l53 l54 l55 l59 l60 l61 linesOf worksheetOf sheetWith naming
 worked =
     record {
       paper-goes = record { fine = refl; lengths = refl };

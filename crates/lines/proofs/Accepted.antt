@@ -1,6 +1,6 @@
 -- The lines of an accepted sheet show what specs/Accepted.antt says: from the laws of the transfer and of the level time, and from what
 -- an accepted sheet keeps. Assumes nothing.
-use mathlib.Core.Path.{_≡_, refl, sym, _∙_, ap}
+use mathlib.Core.Path.{_≡_, sym, _∙_, ap}
 use mathlib.Core.List.{List, [], _∷_}
 use mathlib.Core.Logic.{inl, inr}
 use Prim.Native.Nat.{ℕ, zero, suc, _-_, _≤_, _<_}
@@ -11,7 +11,7 @@ use lib.Dec.{leb, ltb, eqb}
 use lib.ListN.{length, getD}
 use lib.Seq.{getD-take, length-take-le}
 use borrow.Author.Tests.{leb-true, leb-false, ltb-true, ltb-false, eqb-true, eqb-false}
-use Rattle.units.specs.Numbers.{pick, tenths}
+use Rattle.units.specs.Numbers.{pick, feet, tenths}
 use Rattle.units.specs.declared.Feet.{Feet}
 use Rattle.units.specs.declared.Tenths.{Tenths}
 use Rattle.units.proofs.Steps.{split, cases}
@@ -25,6 +25,7 @@ use Rattle.transfer.specs.declared.Users.the-variants.{Vehicles, Pedestrians}
 use Rattle.transfer.specs.Promises.{nth, Shown}
 use Rattle.transfer.specs.Transfer.{pedestrianTime, timeOf, worstOf}
 use Rattle.transfer.proofs.Promised.{largest, listed, shown-above, no-time}
+use Rattle.faults.specs.Whole.{line48, lastPoint}
 use Rattle.faults.specs.Ranges.{SoundPhase, Sound}
 use Rattle.faults.proofs.Sound.{sound}
 use Rattle.faults.proofs.Accepted.{nth-phase}
@@ -34,7 +35,7 @@ use Rattle.curve.proofs.Times.{level-line}
 use Rattle.rules.specs.Rules.{waited}
 use Rattle.rules.proofs.Promised.{waited-in-mode-one, none-in-mode-two}
 use Rattle.lines.specs.Lines.{pedestrianPhase, l04, l05, l06, l07, l08, l09, l10, l11, l12, l13, l14, l15, l20, l23, l46, l48}
-use Rattle.lines.specs.Accepted.{Chosen, VehicleLines, ShowsPedestrians, ShowsNoPedestrians, PedestrianLines, Around, LevelBetweenPoints, PointsAround}
+use Rattle.lines.specs.Accepted.{Chosen, VehicleLines, ShowsPedestrians, ShowsNoPedestrians, PedestrianLines, Around, LevelBetweenPoints, HasTimes, PointsAround}
 
 -- ---- the phase that is shown
 
@@ -211,11 +212,32 @@ around-below s h d (suc n) c b =
     (λ e. (n, record { listed = omega arith; from = leb-true (nthPoint s n .feet) (d .0) e; to = rw (add-one n) b }))
     (λ e. around-below s h d n (omega arith) (omega (arith, leb-false (nthPoint s n .feet) (d .0) e)))
 
+-- a distance up to line 48: not past the last point, or the last point is 400
+module _ (s : Sheet) (h : Sound s) (d : Feet) (within : d .0 ≤ line48 s) where
+  last-inside : s .«point_count» - 1 < s .«point_count»
+  last-inside = omega (arith, h .«point_count» .low)
+
+  reached : d .0 ≤ 400 → d .0 ≤ lastPoint s
+  reached le =
+      split (ltb (lastPoint s) 400)
+      (λ e. omega (arith, h .distance .1 (ltb-true (lastPoint s) 400 e)))
+      (λ e. omega (arith, ltb-false (lastPoint s) 400 e))
+
+  around-near : d .0 ≤ 400 → (i : ℕ) × Around s d i
+  around-near le = around-below s h d (s .«point_count» - 1) last-inside (reached le)
+
+  at-four-hundred : 400 < d .0 → 400 ≤ lastPoint s
+  at-four-hundred gt =
+      split (ltb (lastPoint s) 400)
+      (λ e. absurd (omega (arith, ltb-true (lastPoint s) 400 e, h .distance .1 (ltb-true (lastPoint s) 400 e))))
+      (λ e. ltb-false (lastPoint s) 400 e)
+
+  has-times : HasTimes s d
+  has-times =
+      (around-near, λ gt. (around-below s h (feet 400) (s .«point_count» - 1) last-inside (at-four-hundred gt), at-four-hundred gt, omega (arith, h .distance .0)))
+
 pub points-around : PointsAround
 unfolding l23 l46 l48
 points-around s a =
     let h = sound s a in
-    let last = s .«point_count» - 1 in
-    let inside : last < s .«point_count» = omega (arith, h .«point_count» .low) in
-    let reach = h .distance in
-    (around-below s h (l20 s) last inside (omega arith), around-below s h (l23 s) last inside (omega arith), around-below s h (l48 s) last inside (omega arith))
+    (around-near s h (l20 s) (omega arith) (omega (arith, h .l20 .high)), has-times s h (l23 s) (omega arith), has-times s h (l48 s) (omega arith))

@@ -1,12 +1,12 @@
 -- No line of an accepted sheet is large: from the ranges of what it is worked out from. Assumes nothing.
 use mathlib.Core.Path.{_≡_, ap}
 use mathlib.Core.List.{List, [], _∷_}
-use Prim.Native.Nat.{ℕ, _+_, _*_, _≤_, max}
+use Prim.Native.Nat.{ℕ, _+_, _*_, _≤_}
 use native.Mathlib.Nat.{mul-le-mul, div-le-self}
 use native.Mathlib.Omega.{arith}
 use lib.ListN.{take}
 use Rattle.units.specs.Lists.{All}
-use Rattle.units.proofs.Rounding.{up-le, up-le-self}
+use Rattle.units.proofs.Rounding.{up-le}
 use Rattle.units.specs.declared.Feet.{Feet}
 use Rattle.units.specs.declared.Tenths.{Tenths}
 use Rattle.sheet.specs.declared.Sheet.{Sheet}
@@ -19,8 +19,8 @@ use Rattle.faults.specs.Whole.{acceptOf}
 use Rattle.faults.specs.Ranges.{SoundPhase, SoundPoint, Sound}
 use Rattle.faults.proofs.Sound.{sound}
 use Rattle.curve.specs.Promises.{TimesWithin}
-use Rattle.curve.proofs.Times.{acceleration-le}
-use Rattle.lines.specs.Lines.{l03, l16, l17, l20, l21, l22, l23, l24, l25, l29, l32, l34, l36, l38, l40, l41, l43, l44, l45, l46, l48, l49, l50, l52, l53, l54, l55, l57, l58, l59}
+use Rattle.curve.proofs.Joined.{acceleration-le}
+use Rattle.lines.specs.Lines.{l03, l16, l17, l20, l21, l22, l23, l24, l25, l32, l36, l38, l40, l41, l43, l44, l45, l46, l48, l49, l50, l54, l57, l58, l59}
 
 bounded : (ps : List Phase) → All SoundPhase ps → All Bounded ps
 bounded [] a = tt
@@ -36,18 +36,18 @@ pub record Bounds (s : Sheet) : Type 0 where
   pub l03 : l03 s .0 ≤ 1998
   pub l16 : l16 s .0 ≤ 2118
   pub l17 : l17 s .0 ≤ 4116
-  pub l21 : l21 s .0 ≤ 800
-  pub l22 : l22 s .0 ≤ 420
+  pub l21 : l21 s .0 ≤ 1400
+  pub l22 : l22 s .0 ≤ 720
   pub l23 : l23 s .0 ≤ 550
   pub l24 : l24 s .0 ≤ 19998
-  pub l25 : l25 s .0 ≤ 20418
+  pub l25 : l25 s .0 ≤ 20718
   pub l32 : l32 s .0 ≤ 1998
   pub l38 : l38 s .0 ≤ 9981
   pub l40 : l40 s .0 ≤ 10980
   pub l44 : l44 s .0 ≤ 10980
-  pub l48 : l48 s .0 ≤ 950
+  pub l48 : l48 s .0 ≤ 1000
   pub l49 : l49 s .0 ≤ 19998
-  pub l50 : l50 s .0 ≤ 20418
+  pub l50 : l50 s .0 ≤ 20718
   pub l54 : l54 s .0 ≤ 19998
   pub l59 : l59 s .0 ≤ 99900
 
@@ -57,7 +57,7 @@ bounds-of s h =
     let sixteen : l16 s .0 ≤ 2118 = at-most (take (s .«phase_count») (s .phases)) (bounded (take (s .«phase_count») (s .phases)) (h .phases)) .1 in
     let ps = take (s .«point_count») (s .points) in
     let times = timed ps (h .points) in
-    let start = up-le (s .l18 + s .l19) 2 400 (omega arith) (omega (arith, h .l18, h .l19)) in
+    let start = up-le (s .l18 + s .l19) 2 700 (omega arith) (omega (arith, h .l18, h .l19)) in
     let clears : l24 s .0 ≤ 19998 = acceleration-le ps (s .vehicle) _ _ times in
     let moves : l49 s .0 ≤ 19998 = acceleration-le ps (s .vehicle) _ _ times in
     let stands : l54 s .0 ≤ 19998 = acceleration-le ps (s .vehicle) _ _ times in
@@ -76,7 +76,7 @@ bounds-of s h =
       l38 = gate;
       l40 = omega (arith, gate, h .l39);
       l44 = omega (arith, gate, h .l39);
-      l48 = omega (arith, h .l19, h .l20, h .l47);
+      l48 = omega (arith, h .distance .0);
       l49 = moves;
       l50 = omega (arith, start, moves);
       l54 = stands;

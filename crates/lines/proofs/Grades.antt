@@ -1,6 +1,7 @@
 -- The second grade is line 49's alone: every line is worked out on both sheets, and they agree as they stand. Assumes nothing.
 use mathlib.Core.Path.{_≡_, refl, ap}
 use lib.IntN.{ℤ}
+use lib.ListN.{take}
 use Rattle.units.specs.Numbers.{pick}
 use Rattle.units.specs.declared.Feet.{Feet}
 use Rattle.sheet.specs.declared.Sheet.{Sheet}
@@ -12,8 +13,7 @@ use Rattle.faults.specs.Whole.{acceptOf}
 use Rattle.faults.specs.Ranges.{Between, Sound}
 use Rattle.faults.proofs.Sound.{sound}
 use Rattle.faults.proofs.Accepted.{sound-is-accepted}
-use Rattle.factor.specs.Factor.{factorOf}
-use Rattle.curve.specs.Curve.{accelerationOf}
+use Rattle.curve.proofs.Times.{any-grade}
 use Rattle.lines.specs.Lines.{l03, l04, l05, l06, l07, l08, l09, l10, l11, l12, l13, l14, l15, l16, l17, l21, l22, l23, l24, l25, l26, l27, l29, l32, l34, l35, l36, l38, l40, l41, l43, l44, l45, l46, l48, l49, l50, l51, l52, l53, l54, l55, l59, l60, l61, acceleration, linesOf}
 use Rattle.lines.specs.Worksheet.{worksheetOf, inOrder}
 use Rattle.lines.specs.Grades.{withGrade2, SecondGradeForFortyNine, AnySecondGrade, OneGradeAsBefore, FirstGradeKept, CarCarriesIt}
@@ -82,8 +82,7 @@ unfolding l24 l54
 first-grade s = (refl, refl)
 
 car-time : (s : Sheet) (g : ℤ) (d : Feet) → s .vehicle ≡ Car → acceleration s g d ≡ acceleration s (s .grade2) d
-unfolding accelerationOf factorOf pick
-car-time s g d e = rw e refl
+car-time s g d e = rw e (any-grade (take (s .«point_count») (s .points)) g (s .grade2) d)
 
 pub car-carries-it : CarCarriesIt
 unfolding l03 l04 l05 l06 l07 l08 l09 l10 l11 l12 l13 l14 l15 l16 l17 l21 l22 l23 l24 l25 l26 l27 l29 l32 l34 l35 l36 l38 l40 l41 l43 l44 l45 l46 l48 l49 l50 l51 l52 l53 l54 l55 l59 l60 l61 linesOf inOrder

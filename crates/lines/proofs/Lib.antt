@@ -3,3 +3,4 @@ pub mod Promised
 pub mod Accepted
 pub mod Cases
 pub mod Grades
+pub mod Long

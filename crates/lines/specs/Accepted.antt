@@ -3,7 +3,7 @@ use Prim.Native.Nat.{ℕ, _+_, _≤_, _<_}
 use mathlib.Core.Path.{_≡_}
 use mathlib.Core.Logic.{_⊎_}
 use Rattle.units.specs.declared.Feet.{Feet}
-use Rattle.units.specs.Numbers.{tenths}
+use Rattle.units.specs.Numbers.{feet, tenths}
 use Rattle.sheet.specs.declared.Sheet.{Sheet}
 use Rattle.sheet.specs.declared.Phase.{Phase}
 use Rattle.sheet.specs.declared.Answer.the-variants.{Fine}
@@ -11,7 +11,7 @@ use Rattle.sheet.specs.Entries.{Shaped, listedPoints, nthPhase, nthPoint}
 use Rattle.transfer.specs.declared.Users.{Users}
 use Rattle.transfer.specs.declared.Users.the-variants.{Vehicles, Pedestrians}
 use Rattle.transfer.specs.Transfer.{timeOf}
-use Rattle.faults.specs.Whole.{acceptOf}
+use Rattle.faults.specs.Whole.{lastPoint, acceptOf}
 use Rattle.curve.specs.Curve.{levelOf}
 use Rattle.curve.specs.Promises.{OnTheLine}
 use Rattle.lines.specs.Lines.{l04, l05, l06, l07, l08, l09, l10, l11, l12, l13, l14, l15, l20, l23, l48}
@@ -75,8 +75,14 @@ LevelBetweenPoints =
     (s : Sheet) (d : Feet) (i : ℕ) → Shaped s → acceptOf s ≡ Fine → Around s d i
     → OnTheLine (nthPoint s i) (nthPoint s (i + 1)) d (levelOf (listedPoints s) d .0)
 
--- "acceleration times over 23, 48 and 20": an accepted sheet has two points around each
+-- to 400 ft a distance has two points around it; past it the curve reaches 400 ft and the far times the distance
+abbrev pub HasTimes : Sheet → Feet → Type 0
+HasTimes s d =
+    (d .0 ≤ 400 → (i : ℕ) × Around s d i)
+    × (400 < d .0 → ((i : ℕ) × Around s (feet 400) i) × (400 ≤ lastPoint s) × (d .0 ≤ 1000))
+
+-- "acceleration times over 23, 48 and 20": an accepted sheet has what each needs, and line 54 has points around it always
 abbrev pub PointsAround : Type 0
 PointsAround =
     (s : Sheet) → acceptOf s ≡ Fine
-    → ((i : ℕ) × Around s (l20 s) i) × ((i : ℕ) × Around s (l23 s) i) × ((i : ℕ) × Around s (l48 s) i)
+    → ((i : ℕ) × Around s (l20 s) i) × HasTimes s (l23 s) × HasTimes s (l48 s)

@@ -1,4 +1,4 @@
--- "Both sides of each edge": P1 to P10 in one table, each case with what the definitions must give; then a site that levels out past the rails.
+-- "Both sides of each edge": P1 to P10 in one table, each case with what the definitions must give; then a site that levels out past the rails, and long storage.
 use Prim.Native.Nat.{ℕ, _-_, _*_}
 use mathlib.Core.Bool.{Bool, true, false}
 use mathlib.Core.List.{List, [], _∷_}
@@ -25,9 +25,9 @@ abbrev phase : ℕ → ℕ → ℕ → ℕ → ℕ → ℕ → ℕ → ℕ → P
 phase n g o y r w c m =
     record { number = n; green = g; other = o; yellow = y; red = r; walk = w; clearance = c; mode = m }
 
--- "One sheet, whole", with its grades, second phase, l18, l19, l20, l31, l33, l39 and l47 left open
-abbrev pub sheetOn : ℤ → ℤ → Phase → ℕ → ℕ → ℕ → ℕ → ℕ → ℕ → ℕ → Sheet
-sheetOn grade grade2 second l18 l19 l20 l31 l33 l39 l47 =
+-- "One sheet, whole", with its last point's distance, its grades, second phase, l18, l19, l20, l31, l33, l39 and l47 left open
+abbrev pub sheetTo : ℕ → ℤ → ℤ → Phase → ℕ → ℕ → ℕ → ℕ → ℕ → ℕ → ℕ → Sheet
+sheetTo last grade grade2 second l18 l19 l20 l31 l33 l39 l47 =
     record {
       issue = 12;
       vehicle = Wb50;
@@ -55,8 +55,12 @@ sheetOn grade grade2 second l18 l19 l20 l31 l33 l39 l47 =
       l57 = 120;
       l58 = 40;
       «point_count» = 3;
-      points = point 0 0 ∷ point 100 140 ∷ point 400 320 ∷ replicate 13 zeroPoint;
+      points = point 0 0 ∷ point 100 140 ∷ point last 320 ∷ replicate 13 zeroPoint;
     }
+
+-- with its own points, to 400 ft
+abbrev pub sheetOn : ℤ → ℤ → Phase → ℕ → ℕ → ℕ → ℕ → ℕ → ℕ → ℕ → Sheet
+sheetOn = sheetTo 400
 
 -- level, as the paper has it
 unfoldable pub sheetWith : Phase → ℕ → ℕ → ℕ → ℕ → ℕ → Sheet
@@ -64,6 +68,10 @@ sheetWith second l18 l19 l20 l31 l47 = sheetOn (pos 0) (pos 0) second l18 l19 l2
 
 abbrev pub secondPhase : Phase
 secondPhase = phase 4 40 0 35 20 70 100 1
+
+-- its last point at 399 ft, and so much to relocate
+abbrev pub shortOf : ℕ → Sheet
+shortOf l47 = sheetTo 399 (pos 0) (pos 0) secondPhase 250 41 150 10 270 150 l47
 
 abbrev pub paperSheet : Sheet
 paperSheet = sheetWith secondPhase 60 41 55 10 60
@@ -127,9 +135,14 @@ paperCases =
     -- P9 "mode 2, yellow 35, red 20: clearance 55 accepted, 54 refused 6"
     ∷ answers (sheetWith (phase 4 40 0 35 20 70 55 2) 60 41 55 10 60) 0 0
     ∷ answers (sheetWith (phase 4 40 0 35 20 70 54 2) 60 41 55 10 60) 6 9
-    -- P10 "line 48 of 400 with last point 400 accepted, 401 refused 9"
+    -- P10 "line 48 of 400 with last point 400 accepted"; where document 01 goes on "401 refused 9", request 2026-04 has: "P10's 401 is accepted",
+    -- and "9 is now given when line 48 is beyond 1000, or beyond the last point where that point is below 400"
     ∷ answers (sheetWith secondPhase 209 41 150 10 209) 0 0
-    ∷ answers (sheetWith secondPhase 210 41 150 10 210) 9 0
+    ∷ answers (sheetWith secondPhase 210 41 150 10 210) 0 0
+    ∷ answers (sheetWith secondPhase 809 41 150 10 809) 0 0
+    ∷ answers (sheetWith secondPhase 810 41 150 10 810) 9 0
+    ∷ answers (shortOf 208) 0 0
+    ∷ answers (shortOf 209) 9 0
     ∷ []
 
 -- request 2026-02: up 8 percent to the rails, with the gates down at the call
@@ -143,4 +156,20 @@ gradeCases =
     -- "with document 01's one grade a site that levels out past the rails got too long a green": 60 ft to relocate, by one grade and level
     ∷ shows (uphill (pos 80) 60) ((24, 221) ∷ (25, 292) ∷ (49, 294) ∷ (50, 365) ∷ (51, 370) ∷ (54, 123) ∷ [])
     ∷ shows (uphill (pos 0) 60) ((24, 221) ∷ (25, 292) ∷ (49, 174) ∷ (50, 245) ∷ (51, 300) ∷ (54, 123) ∷ [])
+    ∷ []
+
+-- request 2026-04: 620 ft of storage, and a crossing 400 ft long
+unfoldable pub longCases : List Case
+longCases =
+    -- "Lines 24, 49 and 54 and all above them are restated": all of it relocated, level; and 514 ft of it, up 3.5 percent
+    shows (sheetOn (pos 0) (pos 0) secondPhase 620 41 55 10 270 150 620)
+    ((21, 661) ∷ (22, 351) ∷ (23, 96) ∷ (24, 135) ∷ (48, 716) ∷ (49, 394) ∷ (50, 745) ∷ (51, 750) ∷ (54, 77) ∷ [])
+    ∷ shows (sheetOn (pos 40) (pos 35) secondPhase 620 41 55 10 270 150 514)
+    ((24, 177) ∷ (25, 528) ∷ (48, 610) ∷ (49, 497) ∷ (50, 848) ∷ (51, 850) ∷ (54, 99) ∷ [])
+    -- one foot past 400
+    ∷ shows (sheetOn (pos 0) (pos 0) secondPhase 305 41 55 10 270 150 305) ((48, 401) ∷ (49, 319) ∷ [])
+    -- line 23 past 400, and line 24 with it: by the far times, and between the two
+    ∷ shows (sheetOn (pos 80) (pos 80) secondPhase 60 400 150 370 270 150 60)
+    ((23, 550) ∷ (24, 663) ∷ (25, 913) ∷ (29, 1180) ∷ (48, 610) ∷ (49, 716) ∷ (54, 286) ∷ [])
+    ∷ shows (sheetOn (pos 0) (pos 0) secondPhase 60 400 10 370 270 150 0) ((23, 410) ∷ (24, 310) ∷ (48, 410) ∷ (49, 310) ∷ (54, 14) ∷ [])
     ∷ []

@@ -3,6 +3,7 @@ pub mod Lines
 pub mod Sections
 pub mod Worksheet
 pub mod Grades
+pub mod Long
 pub mod Cases
 pub mod Promises
 pub mod Accepted

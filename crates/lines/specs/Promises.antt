@@ -9,7 +9,7 @@ use Rattle.sheet.specs.declared.Answer.the-variants.{Fine, Refused}
 use Rattle.faults.specs.Whole.{acceptOf}
 use Rattle.lines.specs.Lines.{l03, pedestrianPhase, l13, l14, l17, l21, l22, l25, l28, l29, l33, l34, l35, l36, l37, l38, l40, l44, l50, l51, l53, l54, l57, l58, l59, l60, l61}
 use Rattle.lines.specs.Worksheet.{zeroLines, worksheetOf}
-use Rattle.lines.specs.Cases.{allRight, paperCases, gradeCases}
+use Rattle.lines.specs.Cases.{allRight, paperCases, gradeCases, longCases}
 
 -- "Proved in a single tabled statement"
 abbrev pub PaperCases : Type 0
@@ -18,6 +18,10 @@ PaperCases = T (allRight paperCases)
 -- "a site that levels out past the rails"; "Line 25 can now decide line 51"
 abbrev pub GradeCases : Type 0
 GradeCases = T (allRight gradeCases)
+
+-- "up to 1,000 ft"
+abbrev pub LongStorage : Type 0
+LongStorage = T (allRight longCases)
 
 -- "A refused .. worksheet .. gives only zeros beside its number"
 abbrev pub RefusedGivesZeros : Type 0

@@ -17,7 +17,7 @@ pub fn number(refusal: Refusal) -> u32
         Refusal::ClearanceTooShort => 6,
         Refusal::RelocationBeyondStorage => 7,
         Refusal::WarningTooShort => 8,
-        Refusal::BeyondLastPoint => 9,
+        Refusal::RelocationTooFar => 9,
         Refusal::TrackLongerThanTransfer => 10,
         Refusal::NoRoom => 11,
         Refusal::DwellPhaseNotListed => 12,

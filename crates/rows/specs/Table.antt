@@ -90,7 +90,7 @@ kinds =
     ∷ kind plain "track" ((30 to 60) ∷ (0 to 60) ∷ [])
     -- "after `track`, `dwell=` with rising phase numbers and commas between, or 0 for none"
     ∷ ifAbsent asNone (listOf mostPhases "dwell" (1 to 8))
-    ∷ kind plain "l18" ((0 to 400) ∷ [])
+    ∷ kind plain "l18" ((0 to 1000) ∷ [])
     ∷ kind plain "l19" ((1 to 400) ∷ [])
     ∷ kind plain "l20" ((1 to 150) ∷ [])
     ∷ kind plain "l28" ((0 to 999) ∷ [])
@@ -99,7 +99,7 @@ kinds =
     ∷ kind plain "l33" ((0 to 999) ∷ [])
     ∷ kind plain "l37" ((100 to 999) ∷ [])
     ∷ kind plain "l39" ((0 to 999) ∷ [])
-    ∷ kind plain "l47" ((0 to 400) ∷ [])
+    ∷ kind plain "l47" ((0 to 1000) ∷ [])
     ∷ kind plain "l56" ((30 to 999) ∷ [])
     ∷ kind plain "l57" ((1 to 999) ∷ [])
     ∷ kind plain "l58" ((0 to 100) ∷ [])

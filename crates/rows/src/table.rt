@@ -80,7 +80,7 @@ const DWELL_KEY: Key = Key(*b"dwell   ", 5, LIST, 0, 8, AS_NONE);
 
 pub const L18: usize = DWELL + 1 + MOST_PHASES;
 
-const L18_KEY: Key = Key(*b"l18     ", 3, PLAIN, 0, 400, MUST_STAND);
+const L18_KEY: Key = Key(*b"l18     ", 3, PLAIN, 0, 1000, MUST_STAND);
 
 pub const L19: usize = L18 + 1;
 
@@ -116,7 +116,7 @@ const L39_KEY: Key = Key(*b"l39     ", 3, PLAIN, 0, 999, MUST_STAND);
 
 pub const L47: usize = L39 + 1;
 
-const L47_KEY: Key = Key(*b"l47     ", 3, PLAIN, 0, 400, MUST_STAND);
+const L47_KEY: Key = Key(*b"l47     ", 3, PLAIN, 0, 1000, MUST_STAND);
 
 pub const L56: usize = L47 + 1;
 

@@ -2,7 +2,7 @@
 use Prim.Native.Nat.{ℕ, _+_, _*_}
 use mathlib.Core.Bool.{Bool, true, false}
 use Rattle.sheet.specs.declared.Refusal.{Refusal}
-use Rattle.sheet.specs.declared.Refusal.the-variants.{Malformed, OutOfRange, PhasesDontRise, PointsDontRise, PedestriansInModeZero, ClearanceTooShort, RelocationBeyondStorage, WarningTooShort, BeyondLastPoint, TrackLongerThanTransfer, NoRoom, DwellPhaseNotListed, UnitUnfit, LoadNotNow, IssueNotNewer, CommandNotAllowed}
+use Rattle.sheet.specs.declared.Refusal.the-variants.{Malformed, OutOfRange, PhasesDontRise, PointsDontRise, PedestriansInModeZero, ClearanceTooShort, RelocationBeyondStorage, WarningTooShort, RelocationTooFar, TrackLongerThanTransfer, NoRoom, DwellPhaseNotListed, UnitUnfit, LoadNotNow, IssueNotNewer, CommandNotAllowed}
 use Rattle.sheet.specs.declared.Answer.{Answer}
 use Rattle.sheet.specs.declared.Answer.the-variants.{Fine, Refused}
 
@@ -23,8 +23,8 @@ numberOf ClearanceTooShort = 6
 numberOf RelocationBeyondStorage = 7
 -- "l31 below one second for each 10 ft, or part, of l19 beyond 35 ft"
 numberOf WarningTooShort = 8
--- "line 48 beyond the last point"
-numberOf BeyondLastPoint = 9
+-- "9 is now given when line 48 is beyond 1000, or beyond the last point where that point is below 400"
+numberOf RelocationTooFar = 9
 -- "track yellow + red above line 16"
 numberOf TrackLongerThanTransfer = 10
 -- "the lent output is shorter than the text"

@@ -65,7 +65,7 @@ pub enum Refusal {
     ClearanceTooShort,
     RelocationBeyondStorage,
     WarningTooShort,
-    BeyondLastPoint,
+    RelocationTooFar,
     TrackLongerThanTransfer,
     NoRoom,
     DwellPhaseNotListed,

@@ -49,10 +49,10 @@ formCases =
     -- a line that is absent is not counted, and one that stands is
     ∷ anyForm (toGrade ++ "l01=1000" ∷ []) 2 4
     ∷ anyForm (toGrade ++ "grade2=5" ∷ "l01=1000" ∷ []) 2 5
-    ∷ anyForm (toGrade ++ toTrack ++ "l18=401" ∷ []) 2 9
-    ∷ anyForm (toGrade ++ toTrack ++ "dwell=0" ∷ "l18=401" ∷ []) 2 10
-    ∷ anyForm (toGrade ++ "grade2=5" ∷ toTrack ++ "l18=401" ∷ []) 2 10
-    ∷ anyForm (toGrade ++ "grade2=5" ∷ toTrack ++ "dwell=0" ∷ "l18=401" ∷ []) 2 11
+    ∷ anyForm (toGrade ++ toTrack ++ "l18=1001" ∷ []) 2 9
+    ∷ anyForm (toGrade ++ toTrack ++ "dwell=0" ∷ "l18=1001" ∷ []) 2 10
+    ∷ anyForm (toGrade ++ "grade2=5" ∷ toTrack ++ "l18=1001" ∷ []) 2 10
+    ∷ anyForm (toGrade ++ "grade2=5" ∷ toTrack ++ "dwell=0" ∷ "l18=1001" ∷ []) 2 11
     -- one that begins with its key stands, and has its faults
     ∷ anyForm (toGrade ++ "grade2=-0" ∷ []) 1 4
     ∷ anyForm (toGrade ++ "grade2=81" ∷ []) 2 4

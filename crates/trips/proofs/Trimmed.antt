@@ -14,14 +14,14 @@ use Rattle.units.proofs.Tested.{also, also-left, also-right, given, given-then,
 use Rattle.sheet.specs.declared.Sheet.{Sheet}
 use Rattle.sheet.specs.declared.Phase.{Phase}
 use Rattle.sheet.specs.declared.Point.{Point}
-use Rattle.sheet.specs.declared.Refusal.the-variants.{RelocationBeyondStorage, WarningTooShort, BeyondLastPoint, TrackLongerThanTransfer, DwellPhaseNotListed}
+use Rattle.sheet.specs.declared.Refusal.the-variants.{RelocationBeyondStorage, WarningTooShort, RelocationTooFar, TrackLongerThanTransfer, DwellPhaseNotListed}
 use Rattle.sheet.specs.Refusals.{orElse, unless}
 use Rattle.sheet.specs.Zero.{zeroPhase, zeroPoint}
 use Rattle.rows.specs.Table.{mostPhases, mostPoints, rowFor, placeFor, firstPhase, firstPoint, rowCount, list, kindOf, formOf, rangesOf, widthOf, placeOf, present}
 use Rattle.numbers.specs.Flat.{phasePlace, pointPlace, phaseNumbers, pointNumbers, numbersFrom, flatOf, phaseAt, pointAt}
 use Rattle.transfer.specs.Transfer.{trackFits}
 use Rattle.faults.specs.Lines.{hereFault, lineAfter, ruleFault, faultFrom}
-use Rattle.faults.specs.Whole.{leastWarning, line48, allListed, wholeFault}
+use Rattle.faults.specs.Whole.{leastWarning, line48, farthest, allListed, wholeFault}
 use Rattle.faults.proofs.Sound.{phase-in, point-in, dwell-in, dwell-width, phases-at, points-at, phase-kind, phase-place, point-kind, point-place}
 use Rattle.text.specs.Text.{hereText, textFrom}
 use Rattle.trips.specs.Promises.{kept, trimmed}
@@ -328,5 +328,5 @@ module _ (s : Sheet) where
       λ d.
       orElse (unless (leb (s .l47) (s .l18)) RelocationBeyondStorage 0)
       (orElse (unless (leb (leastWarning (s .l19)) (s .l31)) WarningTooShort 0)
-      (orElse (unless (leb (line48 s) (last d .feet)) BeyondLastPoint 0)
+      (orElse (unless (leb (line48 s) (farthest (last d .feet))) RelocationTooFar 0)
       (orElse (unless (trackFits (transfer d) (s .«track_yellow») (s .«track_red»)) TrackLongerThanTransfer 0) (unless (allListed (transfer d) (dwell d)) DwellPhaseNotListed 0))))

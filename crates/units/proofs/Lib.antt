@@ -3,5 +3,6 @@ pub mod Fixed
 pub mod Rounding
 pub mod Steps
 pub mod Tested
+pub mod Cells
 pub mod Turns
 pub mod Walk

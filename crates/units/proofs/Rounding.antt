@@ -1,9 +1,9 @@
 -- Laws of `up` that the rules cite: what it is from the quotient, and what bounds it. Assumes nothing.
-use mathlib.Core.Path.{_≡_, refl, sym, _∙_, ap}
-use Prim.Native.Nat.{ℕ, zero, suc, zero-le, _+_, _-_, _*_, _/_, _^_, _≤_, _<_}
-use native.Mathlib.Nat.{add-mul, div-eq-of-lt-le, lt-div-mul-add, div-mul-le-self, div-zero, mul-le-mul, mul-le-mul-left, mul-le-mul-right, le-of-mul-le-mul-right, one-mul, div-lt-iff-lt-mul, le-mul-of-pos-right}
+use mathlib.Core.Path.{_≡_, _∙_, ap}
+use Prim.Native.Nat.{ℕ, zero, suc, _+_, _-_, _*_, _/_, _^_, _≤_, _<_}
+use native.Mathlib.Nat.{add-mul, div-eq-of-lt-le, lt-div-mul-add, div-mul-le-self, div-zero, mul-le-mul, mul-le-mul-left, one-mul, div-lt-iff-lt-mul, le-mul-of-pos-right, mul-div-cancel}
 use native.Mathlib.Omega.{arith}
-use Rattle.units.specs.Numbers.{up}
+use Rattle.units.specs.Numbers.{up, TakenUp}
 
 pub up-exact : (n d : ℕ) → 0 < d → n / d * d ≡ n → up n d ≡ n / d
 unfolding up
@@ -47,3 +47,16 @@ up-enough n d h = omega (arith, lt-div-mul-add {a = n + (d - 1)} {b = d} h)
 pub up-least : (n d : ℕ) → 0 < d → up n d * d < n + d
 unfolding up
 up-least n d h = omega (arith, div-mul-le-self (n + (d - 1)) d)
+
+pub up-taken : (n d : ℕ) → 0 < d → TakenUp n d (up n d)
+up-taken n d h = (up-enough n d h, up-least n d h)
+
+-- more over the same is not less, taken up
+pub up-rises : (n m d : ℕ) → 0 < d → n ≤ m → up n d ≤ up m d
+up-rises n m d h le = up-le n d (up m d) h (omega (arith, up-enough m d h))
+
+-- w times a whole number, over w, is that number
+pub up-product : (a w : ℕ) → 0 < w → up (a * w) w ≡ a
+up-product a w pos =
+    let e = mul-div-cancel a {n = w} pos in
+    up-exact (a * w) w pos (ap (λ (n : ℕ). n * w) e) ∙ e

@@ -4,7 +4,7 @@ ghost use Prim.Native.Nat.{_+_, _-_};
 ghost use lib.Dec.{leb};
 ghost use lib.ListN.{getD, take};
 ghost use Rattle.sheet.specs.Zero.{zeroPoint};
-ghost use Rattle.faults.specs.Whole.{leastWarning, listedIn, allListed, wholeFault};
+ghost use Rattle.faults.specs.Whole.{farthest, leastWarning, listedIn, allListed, wholeFault};
 use sheet::Answer;
 use sheet::Phase;
 use sheet::Point;
@@ -31,11 +31,21 @@ fn last_feet(points: [Point; 16], count: u32) -> u32
     points[last].feet
 }
 
-fn reached(points: [Point; 16], count: u32, l19: u32, l20: u32, l47: u32) -> bool
-    ensures { λ r. ⌜ r ≡ leb (l19 + l20 + l47) (getD points (count - 1) zeroPoint .feet) ⌝ }
+// How far there are times: to the last point where it is below 400 ft, else to 1000.
+fn farthest(last: u32) -> u32
+    ensures { λ r. ⌜ r ≡ farthest last ⌝ }
 {
-    let last = last_feet(points, count);
-    l19 as u64 + l20 as u64 + l47 as u64 <= last as u64
+    if last < 400 {
+        return last;
+    }
+    1000
+}
+
+fn reached(points: [Point; 16], count: u32, l19: u32, l20: u32, l47: u32) -> bool
+    ensures { λ r. ⌜ r ≡ leb (l19 + l20 + l47) (farthest (getD points (count - 1) zeroPoint .feet)) ⌝ }
+{
+    let end = farthest(last_feet(points, count));
+    l19 as u64 + l20 as u64 + l47 as u64 <= end as u64
 }
 
 // A phase of that number is among the first `count`.
@@ -79,7 +89,7 @@ pub fn whole_fault(s: Sheet) -> Answer
     let storage = answers::refuse_unless(s.l47 <= s.l18, Refusal::RelocationBeyondStorage, 0);
     let warning = answers::refuse_unless(warned(s.l19, s.l31), Refusal::WarningTooShort, 0);
     let far = reached(points, s.point_count, s.l19, s.l20, s.l47);
-    let distance = answers::refuse_unless(far, Refusal::BeyondLastPoint, 0);
+    let distance = answers::refuse_unless(far, Refusal::RelocationTooFar, 0);
     let fits = right_of_way::track_fits(phases, s.phase_count, s.track_yellow, s.track_red);
     let track = answers::refuse_unless(fits, Refusal::TrackLongerThanTransfer, 0);
     let listed = all_listed(phases, s.phase_count, dwell, s.dwell_count);

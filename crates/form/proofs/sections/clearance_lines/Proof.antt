@@ -51,7 +51,7 @@ along-requires c κs =
     let s = c .before .before .before .args .s in
     let h = sound s (c .before .before .before .pre) in
     let b = bounds s (c .before .before .before .pre) in
-    (small-feet _ (l18 s) 400 (c .before .before .distance .ensures) (h .l18) (omega arith), small-feet _ (l19 s) 400 (c .before .distance2 .ensures) (h .l19 .high) (omega arith))
+    (small-feet _ (l18 s) 1000 (c .before .before .distance .ensures) (h .l18) (omega arith), small-feet _ (l19 s) 400 (c .before .distance2 .ensures) (h .l19 .high) (omega arith))
 
 line22-requires : tie.Need-line22-requires
 line22-requires c κs = search needs
@@ -71,7 +71,7 @@ plus-requires c κs =
     let s = c .before .before .before .before .before .before .before .before .args .s in
     let h = sound s (c .before .before .before .before .before .before .before .before .pre) in
     let b = bounds s (c .before .before .before .before .before .before .before .before .pre) in
-    (small-time _ (l22 s) 420 (e22 (c .before .before .before)) (b .l22) (omega arith), small-time _ (l24 s) 19998 (e24 (c)) (b .l24) (omega arith))
+    (small-time _ (l22 s) 720 (e22 (c .before .before .before)) (b .l22) (omega arith), small-time _ (l24 s) 19998 (e24 (c)) (b .l24) (omega arith))
 
 returns : tie.Need-returns
 unfolding clearanceLines

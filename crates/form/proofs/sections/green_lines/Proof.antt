@@ -51,7 +51,7 @@ along-requires c κs =
     let s = c .before .args .s in
     let h = sound s (c .before .pre .0) in
     let b = bounds s (c .before .pre .0) in
-    (small-feet _ (l23 s) 550 (c .before .pre .2) (b .l23) (omega arith), small-feet _ (l47 s) 400 (c .distance .ensures) (h .l47) (omega arith))
+    (small-feet _ (l23 s) 550 (c .before .pre .2) (b .l23) (omega arith), small-feet _ (l47 s) 1000 (c .distance .ensures) (h .l47) (omega arith))
 
 acceleration-requires : tie.Need-acceleration-requires
 acceleration-requires c κs = search needs
@@ -61,7 +61,7 @@ plus-requires c κs =
     let s = c .before .before .before .before .args .s in
     let h = sound s (c .before .before .before .before .pre .0) in
     let b = bounds s (c .before .before .before .before .pre .0) in
-    (small-time _ (l22 s) 420 (c .before .before .before .before .pre .1) (b .l22) (omega arith), small-time _ (l49 s) 19998 (e49 (c)) (b .l49) (omega arith))
+    (small-time _ (l22 s) 720 (c .before .before .before .before .pre .1) (b .l22) (omega arith), small-time _ (l49 s) 19998 (e49 (c)) (b .l49) (omega arith))
 
 number-requires : tie.Need-number-requires
 number-requires c κs =
@@ -73,13 +73,13 @@ number-requires-2 : tie.Need-number-requires-2
 number-requires-2 c κs =
     let s = c .before .before .before .before .before .before .args .s in
     let b = bounds s (c .before .before .before .before .before .before .pre .0) in
-    small-time _ (l50 s) 20418 (e50 (c .before)) (b .l50) (omega arith)
+    small-time _ (l50 s) 20718 (e50 (c .before)) (b .l50) (omega arith)
 
 number-requires-3 : tie.Need-number-requires-3
 number-requires-3 c κs =
     let s = c .before .before .before .before .before .before .before .args .s in
     let b = bounds s (c .before .before .before .before .before .before .before .pre .0) in
-    small-time _ (l25 s) 20418 (c .before .before .before .before .before .before .before .pre .3) (b .l25) (omega arith)
+    small-time _ (l25 s) 20718 (c .before .before .before .before .before .before .before .pre .3) (b .l25) (omega arith)
 
 line51-requires : tie.Need-line51-requires
 line51-requires c κs = search needs

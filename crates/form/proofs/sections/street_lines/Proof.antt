@@ -47,14 +47,14 @@ plus-requires c κs =
     let s = c .before .before .args .s in
     let h = sound s (c .before .before .pre .0) in
     let b = bounds s (c .before .before .pre .0) in
-    (small-time _ (l17 s) 4116 (c .before .before .pre .1) (b .l17) (omega arith), small-time _ (l22 s) 420 (c .before .before .pre .3) (b .l22) (omega arith))
+    (small-time _ (l17 s) 4116 (c .before .before .pre .1) (b .l17) (omega arith), small-time _ (l22 s) 720 (c .before .before .pre .3) (b .l22) (omega arith))
 
 plus-requires-2 : tie.Need-plus-requires-2
 plus-requires-2 c κs =
     let s = c .before .before .before .args .s in
     let h = sound s (c .before .before .before .pre .0) in
     let b = bounds s (c .before .before .before .pre .0) in
-    (small-time _ (l17 s plus l22 s) 4536 (et2 (c)) (omega (arith, b .l17, b .l22)) (omega arith), small-time _ (l54 s) 19998 (e54 (c .before)) (b .l54) (omega arith))
+    (small-time _ (l17 s plus l22 s) 4836 (et2 (c)) (omega (arith, b .l17, b .l22)) (omega arith), small-time _ (l54 s) 19998 (e54 (c .before)) (b .l54) (omega arith))
 
 time-requires : tie.Need-time-requires
 time-requires c κs = search needs

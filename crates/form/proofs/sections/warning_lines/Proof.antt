@@ -46,14 +46,14 @@ plus-requires c κs =
     let s = c .before .before .before .before .args .s in
     let h = sound s (c .before .before .before .before .pre .0) in
     let b = bounds s (c .before .before .before .before .pre .0) in
-    (small-time _ (l17 s) 4116 (c .before .before .before .before .pre .1) (b .l17) (omega arith), small-time _ (l25 s) 20418 (c .before .before .before .before .pre .2) (b .l25) (omega arith))
+    (small-time _ (l17 s) 4116 (c .before .before .before .before .pre .1) (b .l17) (omega arith), small-time _ (l25 s) 20718 (c .before .before .before .before .pre .2) (b .l25) (omega arith))
 
 plus-requires-2 : tie.Need-plus-requires-2
 plus-requires-2 c κs =
     let s = c .before .before .before .before .before .args .s in
     let h = sound s (c .before .before .before .before .before .pre .0) in
     let b = bounds s (c .before .before .before .before .before .pre .0) in
-    (small-time _ (l17 s plus l25 s) 24534 (et1 (c)) (omega (arith, b .l17, b .l25)) (omega arith), small-time _ (l28 s) 999 (c .before .before .before .before .time .ensures) (h .l28) (omega arith))
+    (small-time _ (l17 s plus l25 s) 24834 (et1 (c)) (omega (arith, b .l17, b .l25)) (omega arith), small-time _ (l28 s) 999 (c .before .before .before .before .time .ensures) (h .l28) (omega arith))
 
 plus-requires-3 : tie.Need-plus-requires-3
 plus-requires-3 c κs =

@@ -1,0 +1,4 @@
+pub mod Rows
+pub mod Times
+pub mod Columns
+pub mod Cases

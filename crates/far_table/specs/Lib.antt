@@ -1,0 +1,2 @@
+pub mod FarTable
+pub mod Promises

@@ -1,0 +1,4 @@
+pub mod Signs
+pub mod Places
+pub mod Mixes
+pub mod Promised
