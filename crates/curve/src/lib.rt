@@ -1,1 +1,1 @@
-// The acceleration time by the sheet's points: in specs/ the paper's rules of it and what is promised, in proofs/ the laws. The functions stand in `acceleration`.
+// The acceleration time over a distance: in specs/ the rules of it and what is promised, in proofs/ the laws. The functions stand in `acceleration`.

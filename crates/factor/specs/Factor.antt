@@ -26,7 +26,7 @@ unfoldable pub tableOf : Place → Place → Fraction
 tableOf c r = record { over = spreadOf entryOf c r; under = 100 * (c .width * r .width) }
 
 -- "The factor is 1 for a car, and for any grade below 10. Otherwise Table 628-B".
--- The table ends at 8 percent and 400 ft; what is past it counts as its end, and no accepted sheet has any.
+-- The table ends at 8 percent and 400 ft; what is past it counts as its end. No accepted sheet has such a grade, and past 400 ft the far times serve.
 unfoldable pub factorOf : Vehicle → ℤ → Feet → Fraction
 factorOf v g d =
     pick (isCar v) one

@@ -7,7 +7,6 @@ use native.Mathlib.Omega.{arith}
 use lib.Dec.{T, leb, ltb, leb→le, ltb→lt}
 use lib.IntN.{ℤ, pos}
 use lib.Signed.{ltZ}
-use borrow.Author.Tests.{lt-ltb}
 use Rattle.units.specs.Numbers.{up, pick, feet}
 use Rattle.units.proofs.Rounding.{up-le, up-enough, up-product}
 use Rattle.units.proofs.Steps.{cases}
@@ -22,10 +21,10 @@ use Rattle.scale.specs.Scale.{climb, placed, placeOn, columnOf, mixOf, lineOf, 
 use Rattle.scale.proofs.Signs.{climbs-less}
 use Rattle.scale.proofs.Promised.{first-column}
 use Rattle.scale.proofs.Mixes.{mix-le, mix-ge}
-use Rattle.far.specs.Far.{afterCar, farRowOf, farColumnOf, farTableOf, farOf, farTimeOf}
+use Rattle.far.specs.Far.{afterCar, farRowOf, chosen, farColumnOf, farTableOf, farOf, farTimeOf}
 use Rattle.far.specs.Promises.{AnEntryAtItsColumn, BetweenTwoColumns, OneColumnForCars, FirstBelowTen, FirstBelowItsOwn, HalfWayAtTen}
 use Rattle.far.proofs.Rows.{row-own}
-use Rattle.far.proofs.Times.{chosen, chosen-le, far-column-stands}
+use Rattle.far.proofs.Times.{chosen-le, chosen-low, far-column-stands}
 
 -- ---- which column serves
 
@@ -33,18 +32,14 @@ pub one-column : OneColumnForCars
 unfolding farColumnOf pick
 one-column g = refl
 
-low : (g : ℤ) → ltZ g (pos 10) ≡ true → chosen g ≡ 0
-unfolding pick
-low g h = rw (lt-ltb (climb g) 10 (climbs-less 10 (omega arith) g h)) refl
-
 pub first-below-ten : FirstBelowTen
 unfolding farColumnOf columnOf placeOn pick
-first-below-ten g h = rw (low g h) (refl, refl, refl)
+first-below-ten g h = rw (chosen-low g (climbs-less 10 (omega arith) g h)) (refl, refl, refl)
 
 -- a grade below a bound chooses a grade below it
 below : (n : ℕ) → 0 < n → (g : ℤ) → ltZ g (pos n) ≡ true → chosen g < n
-below n some g h =
-    cases (λ (k : ℕ). k < n) (ltb (climb g) 10) 0 (min (climb g) 80) (λ e. some) (λ e. omega (arith, climbs-less n some g h))
+unfolding chosen
+below n some g h = cases (λ (k : ℕ). k < n) _ _ _ (λ e. some) (λ e. omega (arith, climbs-less n some g h))
 
 module _ (v : Vehicle) (p : Place) (high : ℕ) (held : (g : ℕ) → g ≤ high → columnOf v g ≡ p) where
   first-serves : (g : ℤ) → ltZ g (pos (high + 1)) ≡ true → afterCar (columnOf v (chosen g)) ≡ afterCar p
@@ -56,7 +51,7 @@ first-below-its-own =
     (first-serves Su (placed 0 0 20) 20 (first-column .0), first-serves Bus (placed 4 0 10) 10 (first-column .1))
 
 pub half-way : HalfWayAtTen
-unfolding farColumnOf climb columnOf placeOn pick
+unfolding farColumnOf chosen climb columnOf placeOn pick
 half-way = refl
 
 -- ---- at a row's own distance

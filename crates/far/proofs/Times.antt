@@ -1,11 +1,11 @@
 -- How large the far times are, that each is the exact fraction taken up, and that none falls with distance: straight between entries that don't. Assumes nothing.
-use mathlib.Core.Path.{ap}
+use mathlib.Core.Path.{_≡_, refl, ap}
 use Prim.Native.Nat.{ℕ, _+_, _*_, _≤_, _<_, min}
 use native.Mathlib.Nat.{le-of-mul-le-mul-right}
 use native.Mathlib.Omega.{arith}
-use lib.Dec.{ltb}
 use lib.IntN.{ℤ}
-use Rattle.units.specs.Numbers.{up, pick}
+use borrow.Author.Tests.{ltb-true, ltb-false}
+use Rattle.units.specs.Numbers.{up}
 use Rattle.units.specs.declared.Feet.{Feet}
 use Rattle.units.proofs.Rounding.{up-le, up-enough, up-taken, up-rises}
 use Rattle.units.proofs.Steps.{cases}
@@ -16,16 +16,22 @@ use Rattle.scale.specs.declared.Place.{Place}
 use Rattle.scale.specs.Scale.{climb, isCar, placed, columnOf, mixOf, lineOf, spreadOf, Standing}
 use Rattle.scale.proofs.Places.{column-stands}
 use Rattle.scale.proofs.Mixes.{areas, spread-le, spread-ge, mix-more, further}
-use Rattle.far.specs.Far.{afterCar, farRowOf, farColumnOf, farTableOf, farOf, farTimeOf}
+use Rattle.far.specs.Far.{afterCar, farRowOf, chosen, farColumnOf, farTableOf, farOf, farTimeOf}
 use Rattle.far.specs.Promises.{FarTakenUp, FarNeverFalls, FarFits, FarWithin}
 use Rattle.far.proofs.Rows.{row-stands, same-width, step-on, past-on}
 
--- the grade that chooses the column
-abbrev pub chosen : ℤ → ℕ
-chosen g = pick (ltb (climb g) 10) 0 (min (climb g) 80)
-
 pub chosen-le : (g : ℤ) → chosen g ≤ 80
-chosen-le g = cases (λ (n : ℕ). n ≤ 80) (ltb (climb g) 10) 0 (min (climb g) 80) (λ e. omega arith) (λ e. omega arith)
+unfolding chosen
+chosen-le g = cases (λ (n : ℕ). n ≤ 80) _ _ _ (λ e. omega arith) (λ e. omega arith)
+
+-- which it is, by the climb
+pub chosen-low : (g : ℤ) → climb g < 10 → chosen g ≡ 0
+unfolding chosen
+chosen-low g h = cases (λ (n : ℕ). n ≡ 0) _ _ _ (λ e. refl) (λ e. absurd (omega (arith, ltb-false)))
+
+pub chosen-steep : (g : ℤ) → 10 ≤ climb g → chosen g ≡ min (climb g) 80
+unfolding chosen
+chosen-steep g h = cases (λ (n : ℕ). n ≡ min (climb g) 80) _ _ _ (λ e. absurd (omega (arith, ltb-true))) (λ e. refl)
 
 after : (p : Place) → Standing 20 14 p → Standing 20 15 (afterCar p)
 after p h = record { near = h .near; apart = h .apart; narrow = h .narrow; inside = omega (arith, h .inside) }

@@ -24,12 +24,14 @@ farRowOf d =
 abbrev pub afterCar : Place → Place
 afterCar p = placed (p .step + 1) (p .past) (p .width)
 
--- "for each vehicle and printed grade column (a car has one)"; "the first column serves below 10 and below its own grade".
+-- "the first column serves below 10 and below its own grade": the grade that chooses the column, 0 below 10; a place below a column's own grade is the first's.
 -- The table ends at 8 percent, and at 1000 ft below; what is past it counts as its end, and no accepted sheet has any.
+unfoldable pub chosen : ℤ → ℕ
+chosen g = pick (ltb (climb g) 10) 0 (min (climb g) 80)
+
+-- "for each vehicle and printed grade column (a car has one)"
 unfoldable pub farColumnOf : Vehicle → ℤ → Place
-farColumnOf v g =
-    pick (isCar v) (placed 0 0 1)
-    (afterCar (columnOf v (pick (ltb (climb g) 10) 0 (min (climb g) 80))))
+farColumnOf v g = pick (isCar v) (placed 0 0 1) (afterCar (columnOf v (chosen g)))
 
 -- "straight between entries", between rows and between columns at once: an exact fraction, in tenths
 unfoldable pub farTableOf : Place → Place → Fraction

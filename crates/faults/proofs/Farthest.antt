@@ -2,7 +2,6 @@
 use mathlib.Core.Logic.{_⊎_, inl, inr}
 use Prim.Native.Nat.{ℕ, _<_, _≤_}
 use native.Mathlib.Omega.{arith}
-use lib.Dec.{ltb}
 use borrow.Author.Tests.{ltb-true, ltb-false}
 use Rattle.units.proofs.Steps.{cases}
 use Rattle.faults.specs.Whole.{farthest}
@@ -14,19 +13,19 @@ module _ (last n : ℕ) where
   pub reaches : (n ≤ 1000) × (last < 400 → n ≤ last) → n ≤ farthest last
   unfolding farthest
   reaches h =
-      cases (λ (k : ℕ). n ≤ k) (ltb last 400) last 1000 (λ e. h .1 (ltb-true last 400 e)) (λ e. h .0)
+      cases (λ (k : ℕ). n ≤ k) _ _ _ (λ e. h .1 (omega (arith, ltb-true))) (λ e. omega (arith, h .0))
 
   pub within : n ≤ farthest last → (n ≤ 1000) × (last < 400 → n ≤ last)
   unfolding farthest
   within =
-      cases (λ (k : ℕ). n ≤ k → (n ≤ 1000) × (last < 400 → n ≤ last)) (ltb last 400) last 1000
-      (λ e h. (omega (arith, ltb-true last 400 e), λ l. h))
-      (λ e h. (h, λ l. omega (arith, ltb-false last 400 e)))
+      cases (λ (k : ℕ). n ≤ k → (n ≤ 1000) × (last < 400 → n ≤ last)) _ _ _
+      (λ e h. (omega (arith, ltb-true), λ l. h))
+      (λ e h. (omega arith, λ l. absurd (omega (arith, ltb-false))))
 
   pub too-far : (1000 < n) ⊎ ((last < 400) × (last < n)) → farthest last < n
   unfolding farthest
-  too-far (inl h) = cases (λ (k : ℕ). k < n) (ltb last 400) last 1000 (λ e. omega (arith, ltb-true last 400 e)) (λ e. h)
-  too-far (inr h) = cases (λ (k : ℕ). k < n) (ltb last 400) last 1000 (λ e. h .1) (λ e. omega (arith, ltb-false last 400 e))
+  too-far (inl h) = cases (λ (k : ℕ). k < n) _ _ _ (λ e. omega (arith, ltb-true)) (λ e. omega arith)
+  too-far (inr h) = cases (λ (k : ℕ). k < n) _ _ _ (λ e. h .1) (λ e. absurd (omega (arith, h .0, ltb-false)))
 
   pub not-too-far : ((1000 < n) ⊎ ((last < 400) × (last < n)) → ⊥) → n ≤ farthest last
   not-too-far none = reaches (not-below 1000 n (λ l. none (inl l)), λ s. not-below last n (λ l. none (inr (s, l))))

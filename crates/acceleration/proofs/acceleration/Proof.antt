@@ -24,7 +24,7 @@ returns c =
     let s = c .before .before .before in
     let a = s .args in
     let ps = take (a .count) (a .points) in
-    pick-yes _ _ _ _ (le-leb _ _ (c .before .if1 .taken))
+    pick-yes _ _ _ _ (le-leb (a .distance .0) 400 (omega arith))
     (c .by-curve .ensures .0 ∙ ap (λ (g : ℤ). curveTimeOf ps (a .vehicle) g (a .distance)) (toZ-ofZ (s .fits .grade)))
 
 by-curve-requires-2 : tie.Need-by-curve-requires-2
@@ -47,8 +47,8 @@ returns-2 c =
     let same = toZ-ofZ (s .fits .grade) in
     let start = c .before .before .by-curve2 .ensures .0 ∙ ap (λ (g : ℤ). curveTimeOf ps (a .vehicle) g (feet 400)) same in
     let end = c .before .far .ensures ∙ ap (λ (g : ℤ). farOf (a .vehicle) g (feet 425)) same in
-    pick-not _ _ _ _ (lt-leb _ _ (t .before .before .if1 .left))
-    (pick-yes _ _ _ _ (lt-ltb _ _ (t .if2 .taken)) (c .joined .ensures ∙ (λ i. joinedOf (start i) (end i) (a .distance))))
+    pick-not _ _ _ _ (lt-leb (a .distance .0) 400 (omega arith))
+    (pick-yes _ _ _ _ (lt-ltb (a .distance .0) 425 (omega arith)) (c .joined .ensures ∙ (λ i. joinedOf (start i) (end i) (a .distance))))
 
 far-requires-2 : tie.Need-far-requires-2
 far-requires-2 c κs = search needs
@@ -63,8 +63,8 @@ returns-3 c =
     let s = t .before .before .before .before in
     let a = s .args in
     let far = c .before .far2 .ensures ∙ ap (λ (g : ℤ). farOf (a .vehicle) g (a .distance)) (toZ-ofZ (s .fits .grade)) in
-    pick-not _ _ _ _ (lt-leb _ _ (t .before .before .if1 .left))
-    (pick-not _ _ _ _ (le-ltb _ _ (t .if2 .left)) (ap tenths (c .div-up .ensures ∙ ap (λ (f : Fraction). up (f .over) (f .under)) far)))
+    pick-not _ _ _ _ (lt-leb (a .distance .0) 400 (omega arith))
+    (pick-not _ _ _ _ (le-ltb (a .distance .0) 425 (omega arith)) (ap tenths (c .div-up .ensures ∙ ap (λ (f : Fraction). up (f .over) (f .under)) far)))
 
 pub acceleration-spec : {M : Type 1} → statement M
 acceleration-spec =

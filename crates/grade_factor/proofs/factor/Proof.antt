@@ -1,5 +1,5 @@
 -- `grade_factor::factor` meets its contract: its tests are the definition's, and the places stand inside the table. Assumes nothing.
-use mathlib.Core.Path.{_∙_, sym, ap}
+use mathlib.Core.Path.{_≡_, _∙_, sym, ap}
 use Prim.Native.Nat.{ℕ, min}
 use native.Mathlib.Omega.{arith}
 use mir.Facts.{toZ-ofZ}
@@ -30,12 +30,17 @@ uphill-requires c κs = search needs
 one-to-one-requires-2 : tie.Need-one-to-one-requires-2
 one-to-one-requires-2 c κs = search needs
 
+-- the grade goes to `uphill` as bits, and the number of the bits is the grade
+climbed : (c : tie.After-uphill) → c .uphill .result ≡ climb (c .before .before .before .args .grade)
+climbed c = c .uphill .ensures ∙ ap climb (toZ-ofZ (c .before .before .before .fits .grade))
+
 returns-2 : tie.Need-returns-2
 unfolding factorOf
 returns-2 c =
-    let up = c .before .before .uphill .ensures ∙ ap climb (toZ-ofZ (c .before .before .before .before .before .fits .grade)) in
-    pick-not _ _ _ _ (sym (c .before .before .before .before .is-car .ensures) ∙ c .before .before .before .if1 .left)
-    (pick-yes _ _ _ _ (lt-ltb _ _ (rw up at (c .before .if2 .taken))) (c .one-to-one2 .ensures))
+    let u = c .before .before in
+    let g = climb (u .before .before .before .args .grade) in
+    pick-not _ _ _ _ (sym (u .before .before .is-car .ensures) ∙ u .before .if1 .left)
+    (pick-yes _ _ _ _ (lt-ltb g 10 (omega (arith, climbed u))) (c .one-to-one2 .ensures))
 
 column-requires : tie.Need-column-requires
 column-requires c κs = search needs
@@ -45,15 +50,18 @@ row-requires c κs = search needs
 
 by-table-requires : tie.Need-by-table-requires
 by-table-requires c κs =
-    (rw (c .before .column .ensures) (column-stands (c .before .before .before .before .before .before .args .vehicle) (min (c .before .before .before .uphill .result) 80) (omega arith)), rw (c .row .ensures) (row-stands (min (c .before .before .before .before .before .before .args .distance .0) 400) (omega arith)))
+    let u = c .before .before .before in
+    let a = u .before .before .before .args in
+    (rw (c .before .column .ensures) (column-stands (a .vehicle) (min (u .uphill .result) 80) (omega arith)), rw (c .row .ensures) (row-stands (min (a .distance .0) 400) (omega arith)))
 
 returns-3 : tie.Need-returns-3
 unfolding factorOf
 returns-3 c =
-    let up = c .before .before .before .before .uphill .ensures ∙ ap climb (toZ-ofZ (c .before .before .before .before .before .before .before .fits .grade)) in
-    let column = c .before .before .column .ensures ∙ ap (λ (n : ℕ). columnOf (c .before .before .before .before .before .before .before .args .vehicle) (min n 80)) up in
-    pick-not _ _ _ _ (sym (c .before .before .before .before .before .before .is-car .ensures) ∙ c .before .before .before .before .before .if1 .left)
-    (pick-not _ _ _ _ (le-ltb _ _ (rw up at (c .before .before .before .if2 .left))) (c .by-table .ensures ∙ (λ i. tableOf (column i) (c .before .row .ensures i))))
+    let u = c .before .before .before .before in
+    let a = u .before .before .before .args in
+    let column = c .before .before .column .ensures ∙ ap (λ (n : ℕ). columnOf (a .vehicle) (min n 80)) (climbed u) in
+    pick-not _ _ _ _ (sym (u .before .before .is-car .ensures) ∙ u .before .if1 .left)
+    (pick-not _ _ _ _ (le-ltb (climb (a .grade)) 10 (omega (arith, climbed u))) (c .by-table .ensures ∙ (λ i. tableOf (column i) (c .before .row .ensures i))))
 
 pub factor-spec : {M : Type 1} → statement M
 factor-spec =

@@ -60,26 +60,30 @@ returns c =
 returns-2 : tie.Need-returns-2
 unfolding columnOf placeOn pick
 returns-2 c =
-    rw (c .before .before .enum-told2 .given .1, ← c .before .before .before .before .smaller .ensures)
-    (c .every-20 .ensures ∙ ap (everyOf 0 20) (c .before .less .ensures) ∙ column-to Su (λ (k : ℕ). everyOf 0 20 (k - 20)) 80 tt (c .before .before .before .before .smaller .result) (omega arith) (omega arith))
+    let g = c .before .before .before .before .smaller in
+    rw (c .before .before .enum-told2 .given .1)
+    (c .every-20 .ensures ∙ ap (everyOf 0 20) (c .before .less .ensures) ∙ column-to Su (λ (k : ℕ). everyOf 0 20 (k - 20)) 80 tt (g .result) (omega arith) (omega arith) ∙ ap (columnOf Su) (g .ensures))
 
 returns-3 : tie.Need-returns-3
 unfolding columnOf placeOn pick
 returns-3 c =
-    rw (c .before .before .before .enum-told3 .given .1, ← c .before .before .before .before .before .smaller .ensures)
-    (c .placed2 .ensures ∙ ap (λ (n : ℕ). placed 4 n 10) (c .before .less2 .ensures) ∙ column-to Bus (λ (k : ℕ). placed 4 (k - 10) 10) 20 tt (c .before .before .before .before .before .smaller .result) (omega arith) (c .before .before .if1 .taken))
+    let g = c .before .before .before .before .before .smaller in
+    rw (c .before .before .before .enum-told3 .given .1)
+    (c .placed2 .ensures ∙ ap (λ (n : ℕ). placed 4 n 10) (c .before .less2 .ensures) ∙ column-to Bus (λ (k : ℕ). placed 4 (k - 10) 10) 20 tt (g .result) (omega arith) (omega arith) ∙ ap (columnOf Bus) (g .ensures))
 
 returns-4 : tie.Need-returns-4
 unfolding columnOf placeOn pick
 returns-4 c =
-    rw (c .before .before .enum-told3 .given .1, ← c .before .before .before .before .smaller .ensures)
-    (c .every-202 .ensures ∙ column-above Bus (λ (k : ℕ). everyOf 5 20 (k - 20)) 20 tt (c .before .before .before .before .smaller .result) (omega arith) (omega arith))
+    let g = c .before .before .before .before .smaller in
+    rw (c .before .before .enum-told3 .given .1)
+    (c .every-202 .ensures ∙ column-above Bus (λ (k : ℕ). everyOf 5 20 (k - 20)) 20 tt (g .result) (omega arith) (omega arith) ∙ ap (columnOf Bus) (g .ensures))
 
 returns-5 : tie.Need-returns-5
 unfolding columnOf placeOn pick
 returns-5 c =
-    rw (c .before .enum-told4 .given .1, ← c .before .before .before .smaller .ensures)
-    (c .every-203 .ensures ∙ column-to Wb50 (λ (k : ℕ). everyOf 9 20 k) 80 tt (c .before .before .before .smaller .result) (omega arith) (omega arith))
+    let g = c .before .before .before .smaller in
+    rw (c .before .enum-told4 .given .1)
+    (c .every-203 .ensures ∙ column-to Wb50 (λ (k : ℕ). everyOf 9 20 k) 80 tt (g .result) (omega arith) (omega arith) ∙ ap (columnOf Wb50) (g .ensures))
 
 pub column-spec : {M : Type 1} → statement M
 column-spec =
