@@ -223,6 +223,7 @@ fn with_dwell(text: &[u8]) -> Vec<u8> {
 pub fn all() -> Vec<(&'static str, Case)> {
     let paper = include_bytes!("../../../sheets/paper.sheet").to_vec();
     let eight = include_bytes!("../../../sheets/eight_phases.sheet").to_vec();
+    let long = include_bytes!("../../../sheets/long_storage.sheet").to_vec();
     let unended = paper[..paper.len() - 1].to_vec();
     let dwelling = with_dwell(&paper);
     let green = Ticks { running: false, end: 0, ended: 0, called: false, before: 0, call: false, count: 400 };
@@ -236,6 +237,7 @@ pub fn all() -> Vec<(&'static str, Case)> {
     vec![
         ("sheet-paper", Case::Sheet(paper.clone())),
         ("sheet-eight", Case::Sheet(eight.clone())),
+        ("sheet-long", Case::Sheet(long.clone())),
         ("write-paper", Case::Write(paper.clone())),
         ("write-eight", Case::Write(eight.clone())),
         ("refused-garbage", Case::Sheet(garbage())),
@@ -244,6 +246,7 @@ pub fn all() -> Vec<(&'static str, Case)> {
         ("tick-phase-paper", ticks(&paper, phase)),
         ("tick-clearance-paper", ticks(&paper, clearance)),
         ("tick-phase-eight", ticks(&eight, last_phase)),
+        ("tick-track-green-long", ticks(&long, green)),
         ("running-track-green-paper", running(&paper, green)),
         ("running-phase-paper", running(&paper, phase)),
         ("running-clearance-paper", running(&paper, clearance)),

@@ -1,4 +1,4 @@
--- The laws of the level time and of the time on a grade: what `up` says of each, and along the points by induction. Assumes nothing.
+-- The laws of the level time and of the time on a grade: what `up` says of each, and along the points by induction; and where the acceleration time is document 01's, where the far one. Assumes nothing.
 use mathlib.Core.Path.{_≡_, refl, _∙_, ap}
 use mathlib.Core.List.{List, [], _∷_}
 use Prim.Native.Nat.{ℕ, _-_, _*_, _<_, _≤_}

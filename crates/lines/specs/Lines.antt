@@ -99,7 +99,7 @@ l22 s = line22 (l21 s)
 unfoldable pub l23 : Sheet → Feet
 l23 s = l19 s along l20 s
 
--- "24, 49 and 54 are acceleration times over 23, 48 and 20." What an acceleration time is stands in curve's specs/Curve.antt.
+-- "24, 49 and 54 are acceleration times over 23, 48 and 20." What an acceleration time is, to 400 ft and past it (request 2026-04), stands in curve's specs/Curve.antt.
 -- Where document 01 goes on "The one grade entered serves all three", request 2026-02 has: "Add `grade2` after `grade`, with the same range, used for
 -- line 49 only. Lines 24 and 54 keep the first." Document 01's lines stand in specs/Grades.antt
 abbrev pub acceleration : Sheet → ℤ → Feet → Tenths
