@@ -1,4 +1,6 @@
 // The acceleration time: to 400 ft the level time by the points, times the factor; from 425 ft the far time; between them straight from the one to the other.
+#![tactic(auto)]
+
 ghost use Rattle.std.specs.Prelude.{◌≡◌, ◌≤◌, take};
 ghost use Rattle.curve.specs.Curve.{acceleration_of, between_of, curve_time_of, graded_of, joined_of, level_of};
 

@@ -1,5 +1,7 @@
 // Whether a sheet is accepted: refusals 2 to 6 line by line, then 7 to 10 and 12 on the whole. The lines are looked at where the sheet has their values, in the order and
 // with the ranges of the table of lines.
+#![tactic(auto)]
+
 ghost use Rattle.std.specs.Prelude.{◌≡◌, ◌+◌, ◌-◌, ◌≤◌, ◌<◌, min, eqb};
 ghost use Rattle.units.specs.Numbers.{pick, both};
 ghost use Rattle.sheet.specs.Refusals.{or_else};

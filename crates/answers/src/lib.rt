@@ -1,4 +1,6 @@
 // Whether an answer is fine, and the first refusal of two.
+#![tactic(auto)]
+
 ghost use Rattle.std.specs.Prelude.{◌≡◌};
 ghost use Rattle.sheet.specs.Refusals.{is_fine, or_else, unless};
 

@@ -1,4 +1,6 @@
 // Table 628-B in the page's order, a printed row to a line, for a proofreader with the page beside it. A row has what is printed behind the point, 06 for 1.06: every factor is 1 and these hundredths.
+#![tactic(auto)]
+
 ghost use Rattle.std.specs.Prelude.{◌≡◌};
 ghost use Rattle.units.specs.Numbers.{hundredths};
 ghost use Rattle.table.specs.Table.{entry_of};

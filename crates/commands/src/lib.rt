@@ -1,4 +1,6 @@
 // What a command makes of the stage, and whether it is allowed now.
+#![tactic(auto)]
+
 ghost use Rattle.std.specs.Prelude.{◌≡◌};
 ghost use Rattle.stage.specs.Commands.{may_start, allowed_in, allowed_at, allowed, home, next, ended, obeyed};
 

@@ -1,4 +1,6 @@
 // A site sheet in an older form, or in today's, on standard input; the same sheet in today's form, or its refusal, on standard output.
+#![tactic(auto)]
+
 use libc::{STDIN_FILENO, STDOUT_FILENO};
 use sheet::Answer;
 

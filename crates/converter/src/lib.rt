@@ -1,4 +1,6 @@
 // Converts a text of an older form of the sheet to today's: it is read with the lines absent that older forms have not got, and its sheet is written.
+#![tactic(auto)]
+
 ghost use Rattle.std.specs.Prelude.{◌≡◌, length};
 ghost use Rattle.trips.specs.Convert.{converted_of, converted_bytes};
 

@@ -1,5 +1,7 @@
 // Texts of each form of the sheet, good and damaged, one after the other on standard input, each after a line `#NAME`; on standard output the answer to each,
 // and of those that are taken the text in today's form.
+#![tactic(auto)]
+
 ghost use Rattle.std.specs.Prelude.{◌≤◌, ◌<◌, length};
 
 use libc::{STDIN_FILENO, STDOUT_FILENO};

@@ -1,4 +1,6 @@
 // A number at a place of a text, plain or with a minus.
+#![tactic(auto)]
+
 ghost use Rattle.std.specs.Prelude.{◌≡◌, ltb};
 ghost use Rattle.figures.specs.Figures.{digit_of, number_at, signed_at};
 

@@ -1,4 +1,6 @@
 // The fault of a sheet's line for dwell: its count and numbers in their ranges, and the numbers rising.
+#![tactic(auto)]
+
 ghost use Rattle.std.specs.Prelude.{◌≡◌};
 ghost use Rattle.faults.specs.Dwell.{numbers_fit, dwell_inside, dwell_line};
 

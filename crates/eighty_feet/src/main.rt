@@ -1,4 +1,6 @@
 // Document 002's example: a WB-50 takes 12.2 seconds over 80 ft of level road. A sheet whose line 23 is 80 ft, with that point; printed: its line 24, level and at 4 percent uphill, in tenths.
+#![tactic(auto)]
+
 use libc::STDOUT_FILENO;
 use sheet::{Phase, Point, Sheet, Vehicle};
 

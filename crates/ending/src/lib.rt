@@ -1,4 +1,6 @@
 // A phase that was asked to end: every change due is made.
+#![tactic(auto)]
+
 ghost use Rattle.std.specs.Prelude.{◌≡◌};
 ghost use Rattle.phase.specs.Ending.{after_walk, walk_over, clearance_over, green_over, after_green, after_yellow, phase_over, over_or_stays, settle_phase};
 

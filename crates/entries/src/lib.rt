@@ -1,4 +1,6 @@
 // A phase, a point and a list of a sheet's numbers.
+#![tactic(auto)]
+
 ghost use Rattle.std.specs.Prelude.{◌≡◌, ◌≤◌, get_or};
 ghost use Rattle.rows.specs.Table.{number_count, place_of};
 ghost use Rattle.numbers.specs.Flat.{phase_place, point_place, phase_at, point_at, list_numbers};

@@ -1,4 +1,6 @@
 // The rules that a phase, a point and a list keep besides their ranges: refusals 3 to 6. They are asked of a text's numbers and of a sheet's values alike.
+#![tactic(auto)]
+
 ghost use Rattle.std.specs.Prelude.{◌≡◌, eqb, take};
 ghost use Rattle.units.specs.Numbers.{pick};
 ghost use Rattle.faults.specs.Lines.{quiet_in_mode_zero, clears_yellow_and_red, phase_fault, starts_at_zero, point_rises, rises_after};

@@ -1,4 +1,6 @@
 // What a program in C or Rust can link (`rt staticlib exported`): texts to lines, and texts written again.
+#![tactic(auto)]
+
 ghost use Rattle.std.specs.Prelude.{◌≡◌, length};
 ghost use Rattle.sheet.specs.Refusals.{code_of};
 ghost use Rattle.text.specs.Read.{read_of};

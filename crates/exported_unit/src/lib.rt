@@ -1,5 +1,7 @@
 // What a program in C or Rust can link (`rt staticlib exported_unit`): a unit that the caller keeps as plain numbers: its sheet as the numbers of the text
 // in their order (`numbers`), its stage as `state` numbers it, without the times, and the times: those spent in the light and by the walker, and the count.
+#![tactic(auto)]
+
 ghost use Rattle.std.specs.Prelude.{◌≡◌};
 ghost use Rattle.sheet.specs.Refusals.{code_of};
 ghost use Rattle.unit.specs.Unit.{now_of};
@@ -20,7 +22,7 @@ const STAGE: usize = 7;
 const TIMES: usize = 3;
 
 // What is told of a reply: the answer, and what the unit then shows and counts.
-#[derive(Drop)]
+#[derive(Clone, Copy)]
 pub struct Told {
     pub answer: Answer,
     pub now: Now,

@@ -1,4 +1,6 @@
 // The far times, the results of Equation 1 in tenths taken up, a distance to a block: the car's with SU's, the bus's, WB-50's, as Table 628-C has them down the page.
+#![tactic(auto)]
+
 ghost use Rattle.std.specs.Prelude.{◌≡◌};
 ghost use Rattle.units.specs.Numbers.{tenths};
 ghost use Rattle.far_table.specs.FarTable.{far_entry_of};

@@ -1,4 +1,6 @@
 // The acceleration time from 425 ft on, by the far times, as an exact fraction in tenths.
+#![tactic(auto)]
+
 ghost use Rattle.std.specs.Prelude.{◌≡◌, ◌<◌, min};
 ghost use Rattle.far_table.specs.FarTable.{far_entry_of};
 ghost use Rattle.scale.specs.Scale.{Standing};

@@ -1,4 +1,6 @@
 // The far times as the code has them, to be held to the equation: a line for each distance, 425 to 1000 ft, with its fifteen times in tenths of a second.
+#![tactic(auto)]
+
 use libc::STDOUT_FILENO;
 
 fn print_row(row: usize) {

@@ -1,4 +1,6 @@
 // A number of a line at a place of the text, in the form that the table has for it: plain, with a minus, or a vehicle's word.
+#![tactic(auto)]
+
 ghost use Rattle.std.specs.Prelude.{◌≡◌};
 ghost use Rattle.figures.specs.declared.Figure.TheVariants.{Is};
 ghost use Rattle.figures.specs.Figures.{on_place, after_at};

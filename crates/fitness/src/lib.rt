@@ -1,4 +1,6 @@
 // Whether a stage fits the sheet, for refusal 20.
+#![tactic(auto)]
+
 ghost use Rattle.std.specs.Prelude.{◌≡◌};
 ghost use Rattle.phase.specs.Times.{light_fits, walker_fits};
 ghost use Rattle.stage.specs.Fitness.{then_fits, phase_fits, stage_fits};

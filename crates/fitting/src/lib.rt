@@ -1,4 +1,6 @@
 // Whether a unit fits its sheet, for refusal 20: by what the sheet says to the sequence, and what the unit shows and counts.
+#![tactic(auto)]
+
 ghost use Rattle.std.specs.Prelude.{◌≡◌};
 ghost use Rattle.fitting.specs.Fitting.{fits_by};
 

@@ -1,4 +1,6 @@
 // The worksheet filled in: the answer to a sheet, and its 61 lines.
+#![tactic(auto)]
+
 ghost use Rattle.std.specs.Prelude.{◌≡◌};
 ghost use Rattle.lines.specs.Worksheet.{zero_lines, worksheet_of, timed_of};
 

@@ -1,4 +1,6 @@
 // The sheet of its numbers.
+#![tactic(auto)]
+
 ghost use Rattle.std.specs.Prelude.{◌≡◌};
 ghost use Rattle.rows.specs.Table.{most_phases, most_points};
 ghost use Rattle.numbers.specs.Flat.{phase_at, point_at, vehicle_of, grade_of, entries_from, sheet_with, sheet_of};

@@ -1,4 +1,6 @@
 // The stage of plain numbers.
+#![tactic(auto)]
+
 ghost use Rattle.std.specs.Prelude.{◌≡◌};
 ghost use Rattle.state.specs.State.{place_of, then_of, light_of, walker_of, stage_of};
 

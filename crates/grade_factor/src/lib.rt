@@ -1,4 +1,6 @@
 // The factor for slower acceleration uphill, by Table 628-B, as an exact fraction.
+#![tactic(auto)]
+
 ghost use Rattle.std.specs.Prelude.{◌≡◌, min};
 ghost use Rattle.table.specs.Table.{entry_of};
 ghost use Rattle.scale.specs.Scale.{Standing};

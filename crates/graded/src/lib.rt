@@ -1,4 +1,6 @@
 // A grade as its number in the table of lines.
+#![tactic(auto)]
+
 ghost use Rattle.std.specs.Prelude.{◌≡◌};
 ghost use Rattle.numbers.specs.Flat.{grade_number};
 

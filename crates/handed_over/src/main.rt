@@ -1,5 +1,7 @@
 // Units and sheets handed over as values. The first line of standard input is the site's sheet as its numbers, each further line a case, `NAME:` and
 // the numbers of `cases`; on standard output the unit as it was handed over, and the reply and the whole unit after a tick, and after a load.
+#![tactic(auto)]
+
 use libc::STDIN_FILENO;
 
 mod cases;

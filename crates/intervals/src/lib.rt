@@ -1,4 +1,6 @@
 // How long an interval runs: a time one tick later, the call's count one tick later, and a phase's green.
+#![tactic(auto)]
+
 ghost use Rattle.std.specs.Prelude.{◌≡◌};
 ghost use Rattle.units.specs.Numbers.{pick};
 ghost use Rattle.phase.specs.Times.{one_more, green_time};

@@ -1,4 +1,6 @@
 // A line of a text by its row of the table: its key, its numbers and a line feed, and what is wrong with it.
+#![tactic(auto)]
+
 ghost use Rattle.std.specs.Prelude.{◌≡◌, ℕ, ◌+◌, ◌-◌, ◌≤◌, ◌<◌, List, true, false, eqb, length, take};
 ghost use Rattle.rows.specs.Table.{plain, list, row_count, number_count, range_of, width_of, place_of};
 ghost use Rattle.faults.specs.Lines.{row_fault};
@@ -14,14 +16,14 @@ use rows::{Key, NUMBERS, ROWS, table};
 use sheet::{Answer, Refusal};
 
 // What was read of a line: whether it is well made, and the place past it. Its numbers are stored in the array lent.
-#[derive(Drop)]
+#[derive(Clone, Copy)]
 pub struct Found {
     pub good: bool,
     pub next: usize,
 }
 
 // The answer so far, and the place past what was read.
-#[derive(Drop)]
+#[derive(Clone, Copy)]
 pub struct Reached {
     pub answer: Answer,
     pub next: usize,

@@ -1,9 +1,11 @@
 // The 61 lines of the worksheet, whole and by sections: in specs/ each line as 628 and the paper define it and what is promised of an accepted sheet, in
 // proofs/ the laws. The functions stand in `form` and `listing`.
+#![tactic(auto)]
+
 use sheet::Answer;
 use units::{Feet, Hundredths, Tenths};
 
-#[derive(Drop)]
+#[derive(Clone, Copy)]
 pub struct Lines {
     pub l01: Tenths,
     pub l02: Tenths,
@@ -68,14 +70,14 @@ pub struct Lines {
     pub l61: Tenths,
 }
 
-#[derive(Drop)]
+#[derive(Clone, Copy)]
 pub struct Worked {
     pub answer: Answer,
     pub lines: Lines,
 }
 
 // What the worksheet says to the sequence: the answer, and lines 3 and 51, which it goes by.
-#[derive(Drop)]
+#[derive(Clone, Copy)]
 pub struct Timed {
     pub answer: Answer,
     pub l03: Tenths,
@@ -85,7 +87,7 @@ pub struct Timed {
 // ---- by sections
 
 // Lines 1 to 3, 16 and 17.
-#[derive(Drop)]
+#[derive(Clone, Copy)]
 pub struct Transfer {
     pub l01: Tenths,
     pub l02: Tenths,
@@ -95,7 +97,7 @@ pub struct Transfer {
 }
 
 // Lines 4 to 9, of the phase with the largest vehicle time.
-#[derive(Drop)]
+#[derive(Clone, Copy)]
 pub struct Vehicles {
     pub l04: u32,
     pub l05: Tenths,
@@ -106,7 +108,7 @@ pub struct Vehicles {
 }
 
 // Lines 10 to 15, of the phase with the largest pedestrian time.
-#[derive(Drop)]
+#[derive(Clone, Copy)]
 pub struct Pedestrians {
     pub l10: u32,
     pub l11: Tenths,
@@ -117,7 +119,7 @@ pub struct Pedestrians {
 }
 
 // Lines 18 to 25.
-#[derive(Drop)]
+#[derive(Clone, Copy)]
 pub struct Clearance {
     pub l18: Feet,
     pub l19: Feet,
@@ -130,7 +132,7 @@ pub struct Clearance {
 }
 
 // Lines 28 to 35.
-#[derive(Drop)]
+#[derive(Clone, Copy)]
 pub struct Warning {
     pub l28: Tenths,
     pub l29: Tenths,
@@ -143,7 +145,7 @@ pub struct Warning {
 }
 
 // Lines 37 to 44.
-#[derive(Drop)]
+#[derive(Clone, Copy)]
 pub struct Gates {
     pub l37: Hundredths,
     pub l38: Tenths,
@@ -155,7 +157,7 @@ pub struct Gates {
 }
 
 // Lines 47 to 51.
-#[derive(Drop)]
+#[derive(Clone, Copy)]
 pub struct Green {
     pub l47: Feet,
     pub l48: Feet,
@@ -165,7 +167,7 @@ pub struct Green {
 }
 
 // Lines 54 to 61.
-#[derive(Drop)]
+#[derive(Clone, Copy)]
 pub struct Street {
     pub l54: Tenths,
     pub l55: Tenths,

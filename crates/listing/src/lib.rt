@@ -1,4 +1,6 @@
 // The 61 lines in their order, as plain numbers.
+#![tactic(auto)]
+
 ghost use Rattle.std.specs.Prelude.{◌≡◌};
 ghost use Rattle.lines.specs.Worksheet.{in_order};
 

@@ -1,4 +1,6 @@
 // What the loader answers, by what it finds: whether the unit fits, what is wrong with the sheet offered, whether the unit rests, and the two issues.
+#![tactic(auto)]
+
 ghost use Rattle.std.specs.Prelude.{◌≡◌};
 ghost use Rattle.loading.specs.Loading.{place_by, answer_by};
 

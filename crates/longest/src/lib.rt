@@ -1,4 +1,6 @@
 // How long a text can be.
+#![tactic(auto)]
+
 ghost use Rattle.std.specs.Prelude.{◌≡◌, ◌+◌};
 ghost use Rattle.rows.specs.Longest.{longest};
 

@@ -1,4 +1,6 @@
 // The phases of a sheet by their numbers, and those that it names for dwell.
+#![tactic(auto)]
+
 ghost use Rattle.std.specs.Prelude.{◌≡◌, take};
 ghost use Rattle.sheet.specs.Entries.{is_in, named};
 ghost use Rattle.stage.specs.Listed.{find_in, is_at, or_zero, listed, phase_of};

@@ -1,4 +1,6 @@
 // What the worksheet of a sheet says to the sequence: worked out once for all of a start, a tick or a load.
+#![tactic(auto)]
+
 ghost use Rattle.std.specs.Prelude.{◌≡◌};
 ghost use Rattle.measured.specs.Measured.{measure_of};
 
@@ -6,7 +8,7 @@ use sheet::{Answer, Sheet};
 use stage::Lengths;
 
 // The answer to the sheet, and the lengths that its unit goes by.
-#[derive(Drop)]
+#[derive(Clone, Copy)]
 pub struct Measured {
     pub answer: Answer,
     pub lengths: Lengths,

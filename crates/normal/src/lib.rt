@@ -1,4 +1,6 @@
 // Which stages are normal operation, and where a sheet is loaded.
+#![tactic(auto)]
+
 ghost use Rattle.std.specs.Prelude.{◌≡◌};
 ghost use Rattle.stage.specs.Shown.{stays_normal, is_normal, normal_before, in_normal, resting};
 

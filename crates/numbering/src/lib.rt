@@ -1,4 +1,6 @@
 // The paper's number of a refusal, and the number and the line of an answer.
+#![tactic(auto)]
+
 ghost use Rattle.std.specs.Prelude.{◌≡◌};
 ghost use Rattle.sheet.specs.Refusals.{number_of, answer_number, answer_line, code_of};
 

@@ -1,5 +1,7 @@
 // The ticks of a run as lines: `tick=CALL`, `tick=CALL,NEXT` and `ticks=CALL,COUNT`.
 // A place past the text stands for none: whatever is looked for there is not found either, so that one test at the end is enough.
+#![tactic(auto)]
+
 ghost use Rattle.std.specs.Prelude.{◌≡◌};
 ghost use Rattle.orders.specs.Orders.{past_at, value_at, two_at, order_at};
 
@@ -9,7 +11,7 @@ use stage::Command;
 const NONE: usize = 18446744073709551615;
 
 // The command and the call at each tick, how many ticks, and the place of the next event; that is past the text where this one is malformed.
-#[derive(Drop)]
+#[derive(Clone, Copy)]
 pub struct Order {
     pub command: Command,
     pub call: bool,
@@ -18,14 +20,14 @@ pub struct Order {
 }
 
 // A number and the place past it.
-#[derive(Drop)]
+#[derive(Clone, Copy)]
 pub struct Value {
     pub value: u32,
     pub next: usize,
 }
 
 // A call and a number after it, the place past their line, and the place past the line of the call alone.
-#[derive(Drop)]
+#[derive(Clone, Copy)]
 pub struct Two {
     pub call: bool,
     pub value: u32,

@@ -1,4 +1,6 @@
 // Many ticks one after the other, with the call on or off all the time and no command.
+#![tactic(auto)]
+
 ghost use Rattle.std.specs.Prelude.{◌≡◌};
 ghost use Rattle.flow.specs.Tick.{passing};
 

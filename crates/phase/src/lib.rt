@@ -1,8 +1,9 @@
 // A phase that was asked to end: its light and its walker. In specs/ the paper's rules of them, in proofs/ the laws. The functions stand in `intervals`,
 // `times`, `fitness` and `ending`.
+#![tactic(auto)]
 
 // What the vehicles see, with the ticks spent in it.
-#[derive(Drop)]
+#[derive(Clone, Copy)]
 pub enum Light {
     Green(u64),
     Yellow(u64),
@@ -10,14 +11,14 @@ pub enum Light {
 }
 
 // What the pedestrians see; clearance also once it is over.
-#[derive(Drop)]
+#[derive(Clone, Copy)]
 pub enum Walker {
     Walk(u64),
     Clearance(u64),
 }
 
 // What the phase comes to once every change due is made.
-#[derive(Drop)]
+#[derive(Clone, Copy)]
 pub enum Settled {
     Stays(Light, Walker),
     Over,

@@ -1,4 +1,6 @@
 // The first fault of a sheet's phases, each in its ranges and after the one before it.
+#![tactic(auto)]
+
 ghost use Rattle.std.specs.Prelude.{◌≡◌, ◌+◌, ◌<◌};
 ghost use Rattle.units.specs.Numbers.{both};
 ghost use Rattle.rows.specs.Table.{first_phase, most_phases};

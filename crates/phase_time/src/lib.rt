@@ -1,4 +1,6 @@
 // How long one phase keeps its vehicles, or its pedestrians.
+#![tactic(auto)]
+
 ghost use Rattle.std.specs.Prelude.{◌≡◌};
 ghost use Rattle.transfer.specs.Transfer.{vehicle_time, pedestrian_time, time_of};
 

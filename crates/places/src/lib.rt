@@ -1,4 +1,6 @@
 // The rows of a sheet's text by their numbers: the kind of each, where its numbers stand, how many they are, and whether the text has it.
+#![tactic(auto)]
+
 ghost use Rattle.std.specs.Prelude.{◌≡◌, ◌<◌};
 ghost use Rattle.rows.specs.Table.{kind_of, width_of, place_of, present};
 

@@ -1,4 +1,6 @@
 // Whether the numbers of a row are in their ranges.
+#![tactic(auto)]
+
 ghost use Rattle.std.specs.Prelude.{◌≡◌, ◌<◌, ◌≤◌, take};
 ghost use Rattle.rows.specs.Facts.{facts_of};
 ghost use Rattle.rows.specs.Table.{row_count, form_of, ranges_of, range_of, width_of, place_of, used_ranges, in_range, in_ranges};

@@ -1,4 +1,6 @@
 // Reads a site sheet from its text.
+#![tactic(auto)]
+
 ghost use Rattle.std.specs.Prelude.{◌≡◌, ℕ, ◌<◌, true, false, List, set};
 ghost use Rattle.units.specs.Numbers.{pick};
 ghost use Rattle.rows.specs.Table.{row_count, place_of};

@@ -1,4 +1,6 @@
 // The right-of-way transfer, lines 4 to 16: the phase that keeps vehicles longest, the one that keeps pedestrians longest, and the larger time.
+#![tactic(auto)]
+
 ghost use Rattle.std.specs.Prelude.{◌≡◌, take};
 ghost use Rattle.transfer.specs.Transfer.{worse_of, worst_of, line16, track_fits};
 

@@ -1,4 +1,6 @@
 // What is wrong with one row of the numbers: refusals 2 to 6, the lowest first.
+#![tactic(auto)]
+
 ghost use Rattle.std.specs.Prelude.{◌≡◌, ◌-◌, eqb};
 ghost use Rattle.units.specs.Numbers.{pick};
 ghost use Rattle.sheet.specs.declared.Answer.TheVariants.{Fine};

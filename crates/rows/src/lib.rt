@@ -1,4 +1,6 @@
 // The table of lines: what a sheet's text is made of, key by key. `places` has the rows by their numbers.
+#![tactic(auto)]
+
 pub mod table;
 
 pub use table::{

@@ -4,7 +4,7 @@ ghost use Rattle.rows.specs.Facts.{head_of, facts_of};
 
 // A key: its letters with blanks after them, how many they are, how its numbers are written, the least and the most of the first, and what its line stands
 // for where it may be absent.
-#[derive(Drop)]
+#[derive(Clone, Copy)]
 pub struct Key(
     pub [u8; 8],
     pub usize,

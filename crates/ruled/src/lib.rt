@@ -1,5 +1,7 @@
 // The rules of single lines, and what a tick is. What a rule takes from the sheet, and what it multiplies, comes in as a number of 32 bits: no product
 // of two runs over.
+#![tactic(auto)]
+
 ghost use Rattle.std.specs.Prelude.{◌≡◌};
 ghost use Rattle.units.specs.Numbers.{tenths, hundredths};
 ghost use Rattle.rules.specs.Rules.{ticks, waited, line22, line38, line51, line59};

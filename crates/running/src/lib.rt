@@ -1,11 +1,13 @@
 // A running unit: a unit with what its sheet says to the sequence worked out once, at its start, at a load or where it was handed over, and not for each tick.
 // What it replies is defined here; `take_over` makes one of any unit, `running_start` by a start or a load, and `running_tick` has its ticks.
+#![tactic(auto)]
+
 use flow::Now;
 use sheet::{Answer, Sheet};
 use stage::Lengths;
 
 // What it shows and counts, over its sheet, its lengths and whether it fits.
-#[derive(Drop)]
+#[derive(Clone, Copy)]
 pub struct Running {
     pub sheet: Sheet,
     pub fits: bool,
@@ -14,7 +16,7 @@ pub struct Running {
 }
 
 // What a start, a tick and a load reply.
-#[derive(Drop)]
+#[derive(Clone, Copy)]
 pub struct Answered {
     pub running: Running,
     pub answer: Answer,

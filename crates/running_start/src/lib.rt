@@ -1,4 +1,6 @@
 // A running unit is begun: by a fresh start, or by a load.
+#![tactic(auto)]
+
 ghost use Rattle.std.specs.Prelude.{◌≡◌};
 ghost use Rattle.running.specs.Running.{with_reply, start_of, load_of};
 

@@ -1,4 +1,6 @@
 // A running unit's ticks, by the lengths that it keeps.
+#![tactic(auto)]
+
 ghost use Rattle.std.specs.Prelude.{◌≡◌};
 ghost use Rattle.running.specs.Running.{ticked_by, tick_answer, passed_by, tick_of, pass_of};
 

@@ -1,4 +1,6 @@
 // Where a distance and a grade stand between the marks of a printed table, and what is straight between its entries.
+#![tactic(auto)]
+
 ghost use Rattle.std.specs.Prelude.{◌≡◌, ◌<◌, ◌≤◌, min};
 ghost use Rattle.scale.specs.Scale.{climb, column_of, every_of, is_car, mix_of, placed};
 

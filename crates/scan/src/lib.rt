@@ -1,4 +1,6 @@
 // Where a byte stands in a text.
+#![tactic(auto)]
+
 ghost use Rattle.std.specs.Prelude.{◌≡◌};
 ghost use Rattle.scan.specs.Find.{find_at};
 

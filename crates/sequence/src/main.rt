@@ -1,4 +1,6 @@
 // The bench: a site sheet on standard input, a line `run`, then one event a line; on standard output what the unit shows.
+#![tactic(auto)]
+
 use libc::STDIN_FILENO;
 use running::Running;
 use sheet::Answer;
@@ -9,7 +11,7 @@ mod marks;
 mod prints;
 
 // A running unit, the ticks it has run, and the place of the next event and how many lines stand before it.
-#[derive(Drop)]
+#[derive(Clone, Copy)]
 struct Run {
     unit: Running,
     tick: u64,

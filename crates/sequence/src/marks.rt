@@ -3,7 +3,7 @@ const NONE: usize = 18446744073709551615;
 
 // A line that is a word alone: its place, the place past it, and how many lines there are up to it and with it. Without one the text ends there, and
 // nothing stands past it.
-#[derive(Drop)]
+#[derive(Clone, Copy)]
 pub struct Marked {
     pub start: usize,
     pub next: usize,

@@ -1,7 +1,8 @@
 // The site sheet as values, the refusals, and the answer that says one of them; in specs/ the numbers of the refusals. The functions stand in `answers` and
 // `zeros`.
+#![tactic(auto)]
 
-#[derive(Drop)]
+#[derive(Clone, Copy)]
 pub enum Vehicle {
     Car,
     Su,
@@ -9,7 +10,7 @@ pub enum Vehicle {
     Wb50,
 }
 
-#[derive(Drop)]
+#[derive(Clone, Copy)]
 pub struct Phase {
     pub number: u32,
     pub green: u32,
@@ -21,14 +22,14 @@ pub struct Phase {
     pub mode: u32,
 }
 
-#[derive(Drop)]
+#[derive(Clone, Copy)]
 pub struct Point {
     pub feet: u32,
     pub tenths: u32,
 }
 
 // The lines of the text in their order. Entries of an array past its count are no part of the sheet.
-#[derive(Drop)]
+#[derive(Clone, Copy)]
 pub struct Sheet {
     pub issue: u32,
     pub vehicle: Vehicle,
@@ -60,7 +61,7 @@ pub struct Sheet {
 }
 
 // A case for each number of the paper's table, in its order: 1 to 11, 12, then 20 to 23.
-#[derive(Drop)]
+#[derive(Clone, Copy)]
 pub enum Refusal {
     Malformed,
     OutOfRange,
@@ -81,7 +82,7 @@ pub enum Refusal {
 }
 
 // Fine, or a refusal with its line of the text; 0 where it has none.
-#[derive(Drop)]
+#[derive(Clone, Copy)]
 pub enum Answer {
     Fine,
     Refused(Refusal, u32),

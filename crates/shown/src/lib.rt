@@ -1,4 +1,6 @@
 // What a unit shows, as values: the stage, the phase and its walker.
+#![tactic(auto)]
+
 ghost use Rattle.std.specs.Prelude.{◌≡◌};
 ghost use Rattle.shown.specs.Shown.{plain, placed, lit, lit_in, walker_of, phase_shows, shown_of, same_shown};
 
@@ -9,7 +11,7 @@ use stage::{Place, Stage};
 // The stage: 0, 1, 2 the track's green, yellow and red, 3 to 5 those of a phase, 6 to 8 those of track clearance, 9 dwell's all red, 10 to 12 those of a
 // phase in dwell. The phase, 0 for none.
 // The walker: 0 none, 1 walk, 2 clearance.
-#[derive(Drop)]
+#[derive(Clone, Copy)]
 pub struct Shown {
     pub stage: u32,
     pub phase: u32,

@@ -1,10 +1,12 @@
 // The stage that a unit shows, what follows it, and the commands: types, and in specs/ the paper's rules of them. The functions stand in `lookup`,
 // `normal`, `times`, `fitness` and `commands`.
+#![tactic(auto)]
+
 use phase::{Light, Walker};
 use sheet::Phase;
 
 // Normal operation; or a train's, from track clearance green to the end of dwell.
-#[derive(Drop)]
+#[derive(Clone, Copy)]
 pub enum Place {
     Normal,
     Train,
@@ -13,7 +15,7 @@ pub enum Place {
 // What follows where a stage is over: track green in normal operation, which is next 0 there; a phase, in the same place; the track clearance green
 // that is owed once the transfer has begun; dwell's all red, which is next 0 in dwell; or, as the call is then, dwell's all red if it is on and track
 // green if it is off.
-#[derive(Drop)]
+#[derive(Clone, Copy)]
 pub enum Then {
     ToTrack,
     ToPhase(u32),
@@ -25,7 +27,7 @@ pub enum Then {
 // Each stage with its interval's ticks spent. One that is over of itself has what follows with it: the track's yellow and red, in normal
 // operation and after track clearance green, and a phase that was asked to end. A phase in place Train is one of dwell, and all red is what
 // dwell shows without a phase.
-#[derive(Drop)]
+#[derive(Clone, Copy)]
 pub enum Stage {
     TrackGreen,
     TrackYellow {
@@ -58,14 +60,14 @@ pub enum Stage {
 }
 
 // None, or end with the number that is next; 0 is the track, and in dwell all red.
-#[derive(Drop)]
+#[derive(Clone, Copy)]
 pub enum Command {
     None,
     End(u32),
 }
 
 // What the sequence goes by, in ticks: how long the call must be seen on, how long track clearance green lasts, and the track's yellow and red.
-#[derive(Drop)]
+#[derive(Clone, Copy)]
 pub struct Lengths {
     pub l03: u64,
     pub l51: u64,
@@ -73,7 +75,7 @@ pub struct Lengths {
     pub track_red: u64,
 }
 
-#[derive(Drop)]
+#[derive(Clone, Copy)]
 pub enum Found {
     At(Phase),
     Missing,

@@ -1,10 +1,11 @@
 // A stage as plain numbers: for who keeps a unit, or hands one over. `to_state` has the numbers of a stage, `from_state` the stage of such numbers.
+#![tactic(auto)]
 
 // The kind of stage: 0 track green, 1 and 2 the track's yellow and red, 3 a phase, 4 a phase that was asked to end, 5 track clearance green, 6 dwell's
 // all red. The place: 0 normal operation, 1 a train's, where a phase is one of dwell. What follows: 0 track green, 1 the phase `next`, 2 track clearance
 // green, 3 dwell or track green as the call is then, 4 dwell's all red. The phase shown; its light, 0 green, 1 yellow, 2 red; the ticks spent in it, or
 // in the track's interval; its walker, 0 walk, 1 clearance, and the ticks of that. What a stage does not have is 0.
-#[derive(Drop)]
+#[derive(Clone, Copy)]
 pub struct State {
     pub kind: u32,
     pub place: u32,

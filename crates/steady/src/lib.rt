@@ -1,4 +1,6 @@
 // One tick, with a short way for the ticks on which nothing changes but the times and the count: nearly all of them. Any other takes the three steps.
+#![tactic(auto)]
+
 ghost use Rattle.std.specs.Prelude.{◌≡◌, ◌+◌, ltb};
 ghost use Rattle.flow.specs.Tick.{ticked};
 ghost use Rattle.steady.specs.Steady.{waits, steady_open, steady_in, count_open, count_later};

@@ -1,4 +1,6 @@
 // A running unit is made from any unit that is handed over, by one check of it.
+#![tactic(auto)]
+
 ghost use Rattle.std.specs.Prelude.{◌≡◌};
 ghost use Rattle.running.specs.Running.{running_of};
 

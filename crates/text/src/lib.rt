@@ -1,16 +1,18 @@
 // The text of a site sheet: what a text is read as and what a sheet is written as are defined here, and nothing is worked out: `reader` and `writer` have
 // the functions.
+#![tactic(auto)]
+
 use sheet::{Answer, Sheet};
 
 // The answer to a text, and its sheet, which is the zero sheet where the answer is a refusal.
-#[derive(Drop)]
+#[derive(Clone, Copy)]
 pub struct Reading {
     pub answer: Answer,
     pub sheet: Sheet,
 }
 
 // The answer to writing a sheet, and the text's length, which is 0 where the answer is a refusal.
-#[derive(Drop)]
+#[derive(Clone, Copy)]
 pub struct Written {
     pub answer: Answer,
     pub length: usize,

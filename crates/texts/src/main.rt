@@ -1,5 +1,7 @@
 // Texts, good and damaged, one after the other on standard input, each after a line `#NAME`; on standard output the answer to each, and the
 // lines of those that are accepted.
+#![tactic(auto)]
+
 ghost use Rattle.std.specs.Prelude.{◌≤◌, ◌<◌, length};
 
 use libc::{STDIN_FILENO, STDOUT_FILENO};

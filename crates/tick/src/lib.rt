@@ -1,4 +1,6 @@
 // One tick of the stage and of the call's count: the changes due, what the call does, and the three steps of a tick.
+#![tactic(auto)]
+
 ghost use Rattle.std.specs.Prelude.{◌≡◌};
 ghost use Rattle.stage.specs.declared.Stage.TheVariants.{Ending};
 ghost use Rattle.stage.specs.declared.Then.TheVariants.{ToClearance};

@@ -1,4 +1,6 @@
 // One more tick of the times that a phase and a stage run.
+#![tactic(auto)]
+
 ghost use Rattle.std.specs.Prelude.{◌≡◌};
 ghost use Rattle.phase.specs.Times.{add_light, add_walker};
 ghost use Rattle.stage.specs.Times.{add_open, add_ending, add_one};

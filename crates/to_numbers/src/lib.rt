@@ -1,4 +1,6 @@
 // A sheet as its numbers, in the order of the table of lines.
+#![tactic(auto)]
+
 ghost use Rattle.std.specs.Prelude.{◌≡◌, ◌≤◌, ◌+◌};
 ghost use Rattle.std.proofs.lemmas.List.Edits.{sets};
 ghost use Rattle.sheet.specs.Zero.{zero_phase, zero_point};

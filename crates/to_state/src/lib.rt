@@ -1,4 +1,6 @@
 // The numbers of a stage.
+#![tactic(auto)]
+
 ghost use Rattle.std.specs.Prelude.{◌≡◌};
 ghost use Rattle.state.specs.State.{place_number, then_number, next_number, light_number, light_time, walker_number, walker_time, track, in_phase, numbers_of};
 

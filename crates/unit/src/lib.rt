@@ -1,4 +1,6 @@
 // The sequence unit: a sheet, the stage shown and the count of the call. Here a start; `sequence` has the tick and the loader.
+#![tactic(auto)]
+
 ghost use Rattle.std.specs.Prelude.{◌≡◌};
 ghost use Rattle.unit.specs.Unit.{fresh, restarted, start_of};
 
@@ -7,7 +9,7 @@ use stage::Stage;
 
 mod sequence;
 
-#[derive(Drop)]
+#[derive(Clone, Copy)]
 pub struct Unit {
     pub sheet: Sheet,
     pub stage: Stage,
@@ -15,7 +17,7 @@ pub struct Unit {
 }
 
 // What a start, a tick and a load reply: the unit from then on, and the answer.
-#[derive(Drop)]
+#[derive(Clone, Copy)]
 pub struct Reply {
     pub unit: Unit,
     pub answer: Answer,

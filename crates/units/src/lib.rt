@@ -1,15 +1,17 @@
 // The units of the worksheet, and the few operations on numbers that every rule uses.
+#![tactic(auto)]
+
 ghost use Rattle.std.specs.Prelude.{◌≡◌, ◌-◌, max, min};
 ghost use Rattle.units.specs.Numbers.{up};
 
 // A sheet's numbers are u32, as the text has them. What is worked out from them is u64, so that no sum or product of a rule runs over.
-#[derive(Drop)]
+#[derive(Clone, Copy)]
 pub struct Feet(pub u64);
 
-#[derive(Drop)]
+#[derive(Clone, Copy)]
 pub struct Tenths(pub u64);
 
-#[derive(Drop)]
+#[derive(Clone, Copy)]
 pub struct Hundredths(pub u64);
 
 // n over d, taken up; over 0 it is 0.

@@ -1,5 +1,7 @@
 // Sheets handed over as values, good and with each fault: what the worksheet and the writer answer, and what became of the lent bytes. Each line of
 // standard input is a case, `NAME:` and the numbers of `cases`.
+#![tactic(auto)]
+
 use libc::STDIN_FILENO;
 
 mod cases;

@@ -1,4 +1,6 @@
 // What is wrong with a sheet on the whole: refusals 7 to 10 and 12.
+#![tactic(auto)]
+
 ghost use Rattle.std.specs.Prelude.{◌≡◌, ◌+◌, ◌-◌, leb, get_or, take};
 ghost use Rattle.sheet.specs.Zero.{zero_point};
 ghost use Rattle.faults.specs.Whole.{farthest, least_warning, listed_in, all_listed, whole_fault};

@@ -1,4 +1,6 @@
 // A site sheet on standard input; its worksheet, or its refusal, on standard output.
+#![tactic(auto)]
+
 use libc::{STDIN_FILENO, STDOUT_FILENO};
 use lines::Lines;
 use sheet::Answer;

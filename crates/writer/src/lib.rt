@@ -1,4 +1,6 @@
 // Writes a site sheet as its text.
+#![tactic(auto)]
+
 ghost use Rattle.std.specs.Prelude.{◌≡◌, [], ◌∷◌, true, ◌+◌, ◌≤◌, ◌<◌, min, leb, eqb, length, take};
 ghost use Rattle.rows.specs.Table.{list, row_count, number_count};
 ghost use Rattle.rows.specs.Marks.{mark_of, word_of};

@@ -1,4 +1,6 @@
 // What holds only zeros: a phase, a point, a sheet.
+#![tactic(auto)]
+
 ghost use Rattle.std.specs.Prelude.{◌≡◌};
 ghost use Rattle.sheet.specs.Zero.{zero_phase, zero_point, zero_sheet};
 
