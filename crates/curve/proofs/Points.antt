@@ -3,7 +3,7 @@ use mathlib.Core.Path.{◌≡◌, refl, ap}
 use mathlib.Core.List.{List}
 use Prim.Native.Nat.{ℕ, ◌+◌, ◌<◌, ◌≤◌}
 use lib.ListN.{length, get_or, take, drop}
-use borrow.Author.Tests.{le_leb, lt-leb}
+use borrow.Author.Tests.{le-leb, lt-leb}
 use Rattle.units.specs.Numbers.{pick, tenths}
 use Rattle.units.specs.declared.Feet.{Feet}
 use Rattle.units.proofs.Walk.{left_at, none_left}
@@ -17,7 +17,7 @@ module _ (ps : List Point) (n : ℕ) (fits : n ≤ length ps) (z : Point) (d : F
 
   pub found : (p : Point) (i : ℕ) → i < n → d.0 ≤ (get_or ps i z).feet → level_from p (drop i (take n ps)) d ≡ between_of p (get_or ps i z) d
   unfolding level_from pick
-  found p i h t = rw (left_at ps n fits z i h) (simp (le_leb _ _ t))
+  found p i h t = rw (left_at ps n fits z i h) (simp (le-leb _ _ t))
 
   pub passed : (p : Point) (i : ℕ) → i < n → (get_or ps i z).feet < d.0 → level_from p (drop i (take n ps)) d ≡ level_from (get_or ps i z) (drop (i + 1) (take n ps)) d
   unfolding level_from pick

@@ -8,7 +8,7 @@ use mathlib.Core.Bool.{true}
 use lib.Dec.{leb}
 use lib.IntN.{ℤ, pos}
 use lib.Signed.{lt_z}
-use borrow.Author.Tests.{leb-true, le_leb, lt-leb, le-ltb}
+use borrow.Author.Tests.{leb-true, le-leb, lt-leb, le-ltb}
 use Rattle.units.specs.Numbers.{up, TakenUp, pick, feet, tenths}
 use Rattle.units.specs.declared.Feet.{Feet}
 use Rattle.units.specs.declared.Tenths.{Tenths}
@@ -66,7 +66,7 @@ at_first p q d r wide e f =
 -- the points around the distance are the first two of the list, or the walk along it comes to them
 line_of : {os : List Point} (p q : Point) (d : Feet) → Rising os → Next p q os → p.feet ≤ d.0 → d.0 ≤ q.feet → OnTheLine p q d (level_of os d).0
 unfolding level_of level_from pick
-line_of p q d r here lo hi = rw (le_leb d.0 q.feet hi) (on_the_line p q d r.0)
+line_of p q d r here lo hi = rw (le-leb d.0 q.feet hi) (on_the_line p q d r.0)
 line_of p q d r (later {o = o} (here {ps = ps})) lo hi =
     cases (λ (t : Tenths). OnTheLine p q d t.0) (leb d.0 p.feet) (between_of o p d) _
     (λ t. let e : d.0 ≡ p.feet = omega (arith, leb-true d.0 p.feet t) in
@@ -137,7 +137,7 @@ curve_below_ten ps v g d h = rw (one_below_ten v g d h) (graded_one (level_of ps
 
 pub as_before : AsBeforeToFourHundred
 unfolding acceleration_of pick
-as_before ps v g d h = rw (le_leb d.0 400 h) refl
+as_before ps v g d h = rw (le-leb d.0 400 h) refl
 
 pub far_from : FarFromFourTwentyFive
 unfolding acceleration_of pick

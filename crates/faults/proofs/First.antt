@@ -7,7 +7,7 @@ use native.Mathlib.Numerals.{add-one}
 use native.Mathlib.Omega.{arith}
 use lib.Dec.{eqb}
 use lib.ListN.{get_or}
-use borrow.Author.Tests.{le_leb, lt-leb, eqb-true}
+use borrow.Author.Tests.{le-leb, lt-leb, eqb-true}
 use Rattle.units.proofs.Steps.{steps, split}
 use Rattle.sheet.specs.declared.Phase.{Phase}
 use Rattle.sheet.specs.declared.Sheet.{Sheet}
@@ -33,7 +33,7 @@ passed_first : (a b c : Answer) → a ≡ Fine → b ≡ c → or_else a b ≡ c
 unfolding or_else
 passed_first a b c e f = rw e f
 
-ruleset verdict = (refused_first, passed_first, holds, fails, le_leb, lt-leb, not_below)
+ruleset verdict = (refused_first, passed_first, holds, fails, le-leb, lt-leb, not_below)
 
 pub row_is_first : RowIsFirst
 unfolding row_fault

@@ -3,7 +3,7 @@ use Prim.Native.Nat.{ℕ, ◌+◌, ◌<◌}
 use mathlib.Core.Bool.{Bool, true, false}
 use mathlib.Core.Path.{◌≡◌, refl, ◌∙◌, ap}
 use native.Mathlib.Omega.{arith}
-use borrow.Author.Tests.{le_leb, lt-ltb}
+use borrow.Author.Tests.{le-leb, lt-ltb}
 use Rattle.units.specs.Numbers.{pick}
 use Rattle.units.proofs.Steps.{cases}
 use Rattle.sheet.specs.declared.Sheet.{Sheet}
@@ -118,7 +118,7 @@ module _ (t : Lengths) (s : Sheet) (n k : ℕ) (e : k + 1 ≡ t.track_red) where
 
   red_served : (call : Bool) → settle t s call (TrackRed Train ToDwell (k + 1)) ≡ pick call AllRed TrackGreen
   unfolding settle settle_red enter pick
-  red_served call = rw (le_leb t.track_red (k + 1) (omega arith)) refl
+  red_served call = rw (le-leb t.track_red (k + 1) (omega arith)) refl
 
   red_over : (call : Bool) → after_times t s call red ≡ pick call AllRed TrackGreen
   red_over call = rw red_added (rw (on_time t n (TrackRed Train ToDwell (k + 1)) (red_is_not (k + 1))) (search red_served))

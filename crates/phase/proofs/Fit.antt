@@ -5,7 +5,7 @@ use mathlib.Core.Path.{◌≡◌}
 use native.Mathlib.Omega.{arith}
 use lib.Dec.{ltb, leb}
 use borrow.Author.Rules.{zero≤}
-use borrow.Author.Tests.{ltb-true, leb-true, le_leb}
+use borrow.Author.Tests.{ltb-true, leb-true, le-leb}
 use Rattle.units.proofs.Steps.{cases}
 use Rattle.sheet.specs.declared.Phase.{Phase}
 use Rattle.phase.specs.declared.Light.{Light}
@@ -22,11 +22,11 @@ use Rattle.phase.specs.Promises.{Fits, FitsKept, tick}
 pub one_more_fits : (k n : ℕ) → leb k n ≡ true → leb (one_more k n) n ≡ true
 unfolding one_more
 one_more_fits k n h =
-    le_leb (one_more k n) n (cases (λ (x : ℕ). x ≤ n) (ltb k n) (k + 1) k (λ e. omega (arith, ltb-true k n e)) (λ e. leb-true k n h))
+    le-leb (one_more k n) n (cases (λ (x : ℕ). x ≤ n) (ltb k n) (k + 1) k (λ e. omega (arith, ltb-true k n e)) (λ e. leb-true k n h))
 
 -- a time that has just begun
 pub none_fits : (n : ℕ) → leb 0 n ≡ true
-none_fits n = le_leb 0 n zero≤
+none_fits n = le-leb 0 n zero≤
 
 module _ (p : Phase) where
   pub add_light_fits : (l : Light) → light_fits p l ≡ true → light_fits p (add_light p l) ≡ true

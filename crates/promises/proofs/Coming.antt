@@ -5,7 +5,7 @@ use mathlib.Core.Bool.{Bool, true, false}
 use mathlib.Core.Path.{◌≡◌, refl, sym, ap, subst, ◌∙◌}
 use native.Mathlib.Omega.{arith}
 use lib.Dec.{leb, eqb}
-use borrow.Author.Tests.{leb-false, lt-ltb, le_leb}
+use borrow.Author.Tests.{leb-false, lt-ltb, le-leb}
 use Rattle.units.specs.Numbers.{pick}
 use Rattle.units.proofs.Steps.{cases, both_right}
 use Rattle.sheet.specs.declared.Sheet.{Sheet}
@@ -186,7 +186,7 @@ module _ (t : Lengths) (s : Sheet) (c : Command) (i j : ℕ) where
 module _ (t : Lengths) (s : Sheet) (c : Command) where
   green_over_lem : (k : ℕ) → t.l51 ≤ k → Past ⊥ (settle t s true (ClearanceGreen k))
   unfolding settle settle_green pick
-  green_over_lem k h = rw (le_leb t.l51 k h) (after_green_lem ⊥ t s)
+  green_over_lem k h = rw (le-leb t.l51 k h) (after_green_lem ⊥ t s)
 
   pub last_tick : (i j : ℕ) → j + 1 ≡ t.l51 → Past ⊥ (end_of t s c true (now (ClearanceGreen j) i))
   last_tick i j e =

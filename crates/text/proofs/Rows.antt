@@ -7,7 +7,7 @@ use mathlib.Core.List.{List, [], ◌∷◌}
 use native.Mathlib.Omega.{arith}
 use lib.Dec.{T, eqb, leb, ltb, eqb→eq, leb→le, lt→ltb}
 use lib.ListN.{length, get_or}
-use borrow.Author.Tests.{le_leb, lt-leb, eqb-true}
+use borrow.Author.Tests.{le-leb, lt-leb, eqb-true}
 use Rattle.units.specs.Numbers.{pick}
 use Rattle.units.proofs.Steps.{split}
 use Rattle.units.proofs.Tested.{given, given_then, all_below, at}
@@ -110,8 +110,8 @@ module _ (v : List ℕ) (row line : ℕ) (h : row < row_count) (w : width_of row
 
     pub too_large : least ≤ number → most < number → Refused OutOfRange line ≡ row_fault v row line
     unfolding in_range pick
-    too_large a b = sym (one_fault_lem ∙ fails _ _ _ (rw (← low, ← high, le_leb least number a, lt-leb number most b) refl))
+    too_large a b = sym (one_fault_lem ∙ fails _ _ _ (rw (← low, ← high, le-leb least number a, lt-leb number most b) refl))
 
     pub inside : least ≤ number → number ≤ most → Fine ≡ row_fault v row line
     unfolding in_range pick
-    inside a b = sym (one_fault_lem ∙ holds _ _ _ (rw (← low, ← high, le_leb least number a, le_leb number most b) refl))
+    inside a b = sym (one_fault_lem ∙ holds _ _ _ (rw (← low, ← high, le-leb least number a, le-leb number most b) refl))

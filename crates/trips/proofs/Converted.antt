@@ -6,7 +6,7 @@ use mathlib.Core.List.{List, ◌++◌}
 use native.Mathlib.Omega.{arith}
 use lib.ListN.{length, get_or, take, drop}
 use lib.Dec.{eqb}
-use borrow.Author.Tests.{eqb-true, eqb-false, le_leb}
+use borrow.Author.Tests.{eqb-true, eqb-false, le-leb}
 use Rattle.units.specs.Numbers.{pick}
 use Rattle.units.proofs.Steps.{split, never, both_left, both_right}
 use Rattle.sheet.specs.declared.Sheet.{Sheet}
@@ -159,7 +159,7 @@ module _ (t : List ℕ) (s : Sheet) (e : older_of t ≡ record { answer = Fine; 
       → (converted_of t (length old) ≡ record { answer = Fine; length = length (text_of s) }) × (converted_bytes t old ≡ text_of s ++ drop (length (text_of s)) old)
   unfolding answer_to written_of bytes_of or_else pick
   with_room old a h =
-      let room : answer_to s (length old) ≡ Fine = rw a (holds _ _ _ (le_leb (length (text_of s)) (length old) h)) in
+      let room : answer_to s (length old) ≡ Fine = rw a (holds _ _ _ (le-leb (length (text_of s)) (length old) h)) in
       (as_written (length old) ∙ rw room, as_bytes old ∙ rw room)
 
 pub each_form_is_converted : EachFormIsConverted

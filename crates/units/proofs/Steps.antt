@@ -3,7 +3,7 @@ use Prim.Native.Nat.{ℕ}
 use mathlib.Core.Bool.{Bool, true, false}
 use mathlib.Core.Path.{◌≡◌, refl, sym, ◌∙◌}
 use native.Mathlib.Omega.{arith}
-use borrow.Author.Tests.{lt-ltb, le-ltb, le_leb, lt-leb, eq-eqb, ne_eqb}
+use borrow.Author.Tests.{lt-ltb, le-ltb, le-leb, lt-leb, eq-eqb, ne_eqb}
 use Rattle.units.specs.Numbers.{pick}
 
 pub pick_yes : {A : Type 0} (b : Bool) (x y r : A) → b ≡ true → r ≡ x → r ≡ pick b x y
@@ -18,7 +18,7 @@ pick_not b x y r e h = rw e h
 pub flag : (f b v : Bool) → f ≡ b → f ≡ v → b ≡ v
 flag f b v p q = sym p ∙ q
 
-pub ruleset steps = (pick_yes, pick_not, flag, eq-eqb, ne_eqb, lt-ltb, le-ltb, le_leb, lt-leb)
+pub ruleset steps = (pick_yes, pick_not, flag, eq-eqb, ne_eqb, lt-ltb, le-ltb, le-leb, lt-leb)
 
 -- the arm of a match: what a definition gives at the constructor that was found
 pub arm : {A B : Type 0} (f : A → B) (s v : A) (r : B) → s ≡ v → r ≡ f v → r ≡ f s

@@ -4,7 +4,7 @@ use native.Mathlib.Omega.{arith}
 use lib.IntN.{ℤ}
 use lib.ListN.{take}
 use mir.Facts.{to_z-of_z}
-use borrow.Author.Tests.{le_leb, lt-leb, lt-ltb, le-ltb}
+use borrow.Author.Tests.{le-leb, lt-leb, lt-ltb, le-ltb}
 use borrow.Author.Rules.{rules}
 use Rattle.units.specs.Numbers.{up, feet, tenths}
 use Rattle.units.proofs.Steps.{pick_yes, pick_not}
@@ -24,7 +24,7 @@ returns c =
     let s = c.before.before.before in
     let a = s.args in
     let ps = take a.count a.points in
-    pick_yes _ _ _ _ (le_leb a.distance.0 400 (omega arith))
+    pick_yes _ _ _ _ (le-leb a.distance.0 400 (omega arith))
     (c.by-curve.ensures.0 ∙ ap (λ (g : ℤ). curve_time_of ps a.vehicle g a.distance) (to_z-of_z s.ranges.grade))
 
 by-curve-requires-2 : tie.Need-by-curve-requires-2

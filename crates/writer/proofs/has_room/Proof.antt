@@ -4,7 +4,7 @@ use mathlib.Core.List.{List, ◌++◌}
 use Prim.Native.Nat.{ℕ, ◌+◌, ◌≤◌}
 use lib.Dec.{leb}
 use lib.ListN.{length}
-use borrow.Author.Tests.{le_leb}
+use borrow.Author.Tests.{le-leb}
 use Rattle.units.specs.Numbers.{pick}
 use Rattle.rows.specs.Longest.{longest_from, longest_fields, longest_field, most_fields}
 use Rattle.rows.specs.Table.{row_count, key_of, form_of, width_of, ranges_of, kind_of}
@@ -48,7 +48,7 @@ returns : tie.Need-returns
 unfolding longest_from longest_fields longest_field most_fields pick key_of form_of width_of ranges_of kind_of
 returns c =
     let fits : length (text_from c.before.before.before.before.before.before.args.numbers.now row_count 0) ≤ length c.before.before.before.before.before.before.args.out.now = omega (arith, short_by_counts c.before.before.before.before.before.before.args.numbers.now, c.before.before.before.wide.ensures.0, c.before.wide2.ensures.0) in
-    (sym (le_leb _ _ fits), refl)
+    (sym (le-leb _ _ fits), refl)
 
 sub-put-lines : tie.Need-overflow-sub-put-lines
 sub-put-lines c = search rules

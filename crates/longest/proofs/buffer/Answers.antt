@@ -3,13 +3,9 @@ use mathlib.Core.Path.{refl}
 use Rattle.units.specs.Numbers.{pick}
 use Rattle.rows.specs.Table.{key_of, form_of, width_of, ranges_of, kind_of}
 use Rattle.rows.specs.Longest.{longest_from, longest_fields, longest_field, most_fields}
-use Rattle.longest.proofs.buffer.Statement.{statement}
-use Rattle.longest.proofs.buffer.Tie as tie
+use Rattle.longest.proofs.buffer.Goals as goal
 
-returns : tie.Need-returns
+pub returns : goal.returns
 unfolding longest_from longest_fields longest_field most_fields pick key_of form_of width_of ranges_of kind_of
 returns c =
     refl
-
-pub buffer-spec : {M : Type 1} → statement M
-buffer-spec = tie.close (tie.spec returns)
