@@ -4,7 +4,6 @@ use mathlib.Core.Bool.{true}
 use mathlib.Core.Path.{◌≡◌}
 use native.Mathlib.Omega.{arith}
 use lib.Dec.{ltb, leb}
-use borrow.Author.Rules.{zero≤}
 use borrow.Author.Tests.{ltb-true, leb-true, le-leb}
 use Rattle.units.proofs.Steps.{cases}
 use Rattle.sheet.specs.declared.Phase.{Phase}
@@ -26,7 +25,7 @@ one_more_fits k n h =
 
 -- a time that has just begun
 pub none_fits : (n : ℕ) → leb 0 n ≡ true
-none_fits n = le-leb 0 n zero≤
+none_fits n = le-leb 0 n (omega arith)
 
 module _ (p : Phase) where
   pub add_light_fits : (l : Light) → light_fits p l ≡ true → light_fits p (add_light p l) ≡ true

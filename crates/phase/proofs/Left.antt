@@ -6,7 +6,6 @@ use mathlib.Core.Logic.{inl, inr}
 use mathlib.Core.Path.{◌≡◌, refl}
 use native.Mathlib.Omega.{arith}
 use lib.Dec.{ltb, leb, eqb}
-use borrow.Author.Rules.{zero≤}
 use borrow.Author.Tests.{ltb-true, ltb-false, leb-true, eqb-true, eqb-false}
 use Rattle.units.specs.Numbers.{pick}
 use Rattle.units.proofs.Steps.{cases, split}
@@ -135,7 +134,7 @@ module _ (p : Phase) where
   unfolding light_fits after_green after_yellow
   light_ends k w (Green i) f e =
       cases (λ (l : Light). Ends k (after_yellow p l) w) (green_over p w i) (Yellow 0) (Green i)
-      (λ t. yellow_ends k w 0 zero≤ (green_ends k i w (leb-true i (green_time p) f) e)) (λ t. e)
+      (λ t. yellow_ends k w 0 (omega arith) (green_ends k i w (leb-true i (green_time p) f) e)) (λ t. e)
   light_ends k w (Yellow i) f e = yellow_ends k w i (leb-true i p.yellow f) e
   light_ends k w (Red i) f e = e
 

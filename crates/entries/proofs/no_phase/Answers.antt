@@ -7,18 +7,14 @@ use Rattle.numbers.specs.Flat.{phase_place}
 use Rattle.numbers.proofs.Numbers.{past}
 use native.Mathlib.Omega.{arith}
 use borrow.Author.Rules.{rules}
-use Rattle.entries.proofs.no_phase.Statement.{statement}
-use Rattle.entries.proofs.no_phase.Tie as tie
+use Rattle.entries.proofs.no_phase.Goals as goal
 
-zero-phase-requires : tie.Need-zero-phase-requires
-zero-phase-requires c κs = search rules
-
-returns : tie.Need-returns
+pub returns : goal.returns
 returns c =
-    let v = c.before.args.numbers in
+    let v = c.args.numbers in
     let n : length v ≡ number_count = search rules in
-    let at = phase_place c.before.args.i in
-    c.zero-phase.ensures
+    let at = phase_place c.args.i in
+    c.zero_phase.ensures
     ∙ λ k.
     record {
       number = past v number_count at n (omega arith) k;
@@ -30,6 +26,3 @@ returns c =
       clearance = past v number_count (at + 6) n (omega arith) k;
       mode = past v number_count (at + 7) n (omega arith) k;
     }
-
-pub no-phase-spec : {M : Type 1} → statement M
-no-phase-spec = tie.close (tie.spec zero-phase-requires returns)

@@ -1,0 +1,45 @@
+-- `ranges::used` meets its contract: a list's count cuts its ranges off, any other row has all of them. Assumes nothing.
+use mathlib.Core.Path.{sym, ◌∙◌}
+use native.Mathlib.Omega.{arith}
+use Rattle.rows.proofs.Tables.{width_some, place_room}
+use Rattle.ranges.proofs.Ranges.{list_cut, list_whole, no_list}
+use Rattle.ranges.proofs.used.Goals as goal
+
+pub offset_bounds-numbers-at : goal.offset_bounds-numbers-at
+offset_bounds-numbers-at c =
+    let row = c.args.row in
+    omega (arith, place_room row c.requires.0, c.place-at.ensures)
+
+pub bounds-numbers-at : goal.bounds-numbers-at
+bounds-numbers-at c =
+    let row = c.args.row in
+    let h = c.requires.0 in
+    omega (arith, place_room row h, width_some row h, c.place-at.ensures)
+
+pub overflow_add-result : goal.overflow_add-result
+overflow_add-result c =
+    let o = c.before.before.before.before.before.before in
+    omega (arith, c.if-count-n.taken, place_room o.args.row o.pre.0, c.width-n.ensures)
+
+pub returns-then-count-n : goal.returns-then-count-n
+returns-then-count-n c =
+    let o = c.before.before.before.before.before.before in
+    let e = sym o.pre.1 ∙ c.if-form-eq-LIST.taken in (
+      omega (arith, c.if-count-n.taken, c.width-n.ensures),
+      list_cut o.args.numbers.now o.args.row _ _ e c.place-at.ensures c.wide-count.ensures,
+    )
+
+pub returns-then-form-eq-LIST : goal.returns-then-form-eq-LIST
+returns-then-form-eq-LIST c =
+    let o = c.before.before.before.before.before.before in
+    let e = sym o.pre.1 ∙ c.if-form-eq-LIST.taken in (
+      omega (arith, c.width-n.ensures),
+      list_whole o.args.numbers.now o.args.row _ _ _ e c.place-at.ensures c.wide-count.ensures c.width-n.ensures c.if-count-n.left,
+    )
+
+pub returns : goal.returns
+returns c =
+    let o = c.before.before in (
+      omega (arith, c.width-n.ensures),
+      no_list o.args.numbers.now o.args.row _ (λ e. c.if-form-eq-LIST.left (o.pre.1 ∙ e)) c.width-n.ensures,
+    )
