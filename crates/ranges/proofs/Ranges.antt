@@ -7,7 +7,7 @@ use native.Mathlib.Omega.{arith}
 use lib.Dec.{leb, ltb, eqb}
 use lib.ListN.{length, get_or, take, drop, get_or-eq_default}
 use lib.Seq.{take_all}
-use borrow.Author.Tests.{le_leb, lt-leb, ne_eqb, ltb-true, ltb-false}
+use borrow.Author.Tests.{le-leb, lt-leb, ne_eqb, ltb-true, ltb-false}
 use Rattle.units.specs.Numbers.{pick}
 use Rattle.units.proofs.Steps.{split, cases}
 use Rattle.units.proofs.Walk.{left_at, none_left}
@@ -41,7 +41,7 @@ module _ (r : Range) (x lo hi : ℕ) (low : lo ≡ r.least) where
 
   pub large_enough : hi ≡ r.most → lo ≤ x → leb x hi ≡ in_range r x
   unfolding in_range pick
-  large_enough high h = rw (le_leb r.least x (omega arith), high)
+  large_enough high h = rw (le-leb r.least x (omega arith), high)
 
 -- a row that has a number j is one of the table, and one that has none gives it the range 0 to 0
 pub has_row : (row j : ℕ) → j < width_of row → row < row_count
@@ -51,7 +51,7 @@ has_row row j h =
 pub no_number : (row j x : ℕ) → width_of row ≤ j → leb x 0 ≡ in_range (range_of row j) x
 unfolding width_of in_range pick
 no_number row j x h =
-    rw (get_or-eq_default (ranges_of row) (0 to 0) {n = j} h, le_leb 0 x (omega arith)) refl
+    rw (get_or-eq_default (ranges_of row) (0 to 0) {n = j} h, le-leb 0 x (omega arith)) refl
 
 -- how many of a row's numbers a sheet has: the count of a list stands at its place
 module _ (v : List ℕ) (row at n : ℕ) where

@@ -1,17 +1,14 @@
 -- `entries::list_at` meets its contract: at each turn the stored numbers and those to come are all of them. Assumes nothing.
 use mathlib.Core.Path.{◌≡◌, refl, ap, ◌∙◌}
-use mathlib.Core.List.{List}
 use Prim.Native.Nat.{ℕ, ◌+◌, ◌-◌}
 use lib.ListN.{get_or}
-use Rattle.rows.specs.Table.{most_phases, place_of}
+use Rattle.rows.specs.Table.{most_phases}
 use Rattle.rows.proofs.Tables.{place_within}
 use Rattle.numbers.proofs.Entries.{next_stored, nothing_left}
 use borrow.Author.Rules.{rules}
 use native.Mathlib.Omega.{arith}
+use Rattle.entries.proofs.list_at.Invariants.{each}
 use Rattle.entries.proofs.list_at.Goals as goal
-
-abbrev each : List ℕ → ℕ → ℕ → ℕ
-each v row i = get_or v (place_of row + 1 + i) 0
 
 pub overflow_add-at : goal.overflow_add-at
 overflow_add-at c =
@@ -26,13 +23,11 @@ overflow_add-at-in-loop-i c =
     omega (arith, place_within c.args.row, c.place-at.ensures)
 
 pub loop-i-preserved : goal.loop-i-preserved
-loop-i-preserved c =
-    let o = c.before.before.before.before in
+loop-i-preserved c = 
     let i = c.loop-i.i in
-    let stored : c.number.result ≡ each o.args.numbers.now o.args.row i = c.number.ensures ∙ ap (λ (k : ℕ). get_or o.args.numbers.now (k + 1 + i) 0) c.place-at.ensures in
-    (omega arith, search rules, rw stored (next_stored (each o.args.numbers.now o.args.row) most_phases i c.loop-i.list c.loop-i.invariant.1 (omega arith) ∙ c.loop-i.invariant.2))
+    let stored : c.number.result ≡ each c.args.numbers.now c.args.row i = c.number.ensures ∙ ap (λ (k : ℕ). get_or c.args.numbers.now (k + 1 + i) 0) c.place-at.ensures in
+    (omega arith, search rules, rw stored (next_stored (each c.args.numbers.now c.args.row) most_phases i c.loop-i.list c.loop-i.invariant.1 (omega arith) ∙ c.loop-i.invariant.2))
 
 pub returns : goal.returns
-returns c =
-    let o = c.before.before.before in
-    nothing_left (each o.args.numbers.now o.args.row) most_phases c.loop-i.i c.loop-i.list _ c.loop-i.invariant.1 (omega arith) c.loop-i.invariant.2
+returns c = 
+    nothing_left (each c.args.numbers.now c.args.row) most_phases c.loop-i.i c.loop-i.list _ c.loop-i.invariant.1 (omega arith) c.loop-i.invariant.2

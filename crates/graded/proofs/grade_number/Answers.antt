@@ -5,12 +5,12 @@ use mir.Facts.{to_z-of_z}
 use Rattle.numbers.proofs.Grades.{wide, neg_fits, Downhill, downhill, Uphill, uphill}
 use Rattle.graded.proofs.grade_number.Goals as goal
 
-down : (c : tie.Then1) → Downhill c.args.grade
+down : (c : goal.Then-w-lt0) → Downhill c.args.grade
 down c =
     let f = c.ranges.grade in
     downhill c.args.grade f (rw (to_z-of_z f, to_z-of_z (wide c.args.grade f)) at c.if-w-lt0.true)
 
-climbs : (c : tie.Else1) → Uphill c.args.grade
+climbs : (c : goal.Else-w-lt0) → Uphill c.args.grade
 climbs c =
     let f = c.ranges.grade in
     uphill c.args.grade f (rw (to_z-of_z f, to_z-of_z (wide c.args.grade f)) at c.if-w-lt0.false)

@@ -9,11 +9,11 @@ pub in_range-requires : goal.in_range-requires
 in_range-requires c =
     let row = c.args.row in
     let j = c.args.j in
-    let h : j < width_of row = omega (arith, c.if-j-width.taken, c.width.ensures) in
+    let h : j < width_of row = omega (arith, c.if-j-width.true, c.width.ensures) in
     (has_row row j h, h, c.facts-key.ensures)
 
 pub returns : goal.returns
 returns c =
     let row = c.args.row in
     let j = c.args.j in
-    no_number row j c.args.x (omega (arith, c.if-j-width.left, c.width.ensures))
+    no_number row j c.args.x (omega (arith, c.if-j-width.false, c.width.ensures))

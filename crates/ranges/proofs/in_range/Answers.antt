@@ -18,8 +18,8 @@ most-requires c =
 
 pub returns-then-least-x : goal.returns-then-least-x
 returns-then-least-x c =
-    large_enough (range_of c.args.row c.args.j) c.args.x _ _ c.least.ensures c.most.ensures c.if-least-x.taken
+    large_enough (range_of c.args.row c.args.j) c.args.x _ _ c.least.ensures c.most.ensures c.if-least-x.true
 
 pub returns-else-least-x : goal.returns-else-least-x
 returns-else-least-x c =
-    too_small (range_of c.args.row c.args.j) c.args.x _ 0 c.least.ensures c.if-least-x.left
+    too_small (range_of c.args.row c.args.j) c.args.x _ 0 c.least.ensures c.if-least-x.false

@@ -8,7 +8,7 @@ use Rattle.ranges.proofs.least.Goals as goal
 
 pub returns-then-j-eq0 : goal.returns-then-j-eq0
 returns-then-j-eq0 c =
-    c.requires.2 ∙ ap (λ (m : ℕ). (range_of c.args.row m).least) (sym c.if-j-eq0.taken)
+    c.requires.2 ∙ ap (λ (m : ℕ). (range_of c.args.row m).least) (sym c.if-j-eq0.true)
 
 pub returns-then-j-eq3 : goal.returns-then-j-eq3
 unfolding least_rule

@@ -6,7 +6,7 @@ use Rattle.figures.specs.Figures.{after}
 use Rattle.words.proofs.after.Given as goal
 
 abbrev pub invariant-loop-i : goal.invariant-loop-i
-invariant-loop-i l = (l.p ≡ l.at + l.initial.p) × (after l.p (drop l.initial.p l.w) (drop l.p l.s) ≡ after l.at l.w (drop l.at l.s))
+invariant-loop-i l = (l.p ≡ l.at + l.i) × (after l.p (drop l.i l.w) (drop l.p l.s) ≡ after l.at l.w (drop l.at l.s))
 
 abbrev pub decreases-loop-i : goal.decreases-loop-i
-decreases-loop-i l = length l.w - l.initial.p
+decreases-loop-i l = length l.w - l.i
