@@ -70,7 +70,7 @@ fn singles_fault(numbers: [u32; SINGLES], absent: u32) -> Answer
 }
 
 fn track_in(yellow: u32, red: u32) -> bool
-    ensures { result ≡ both (in_range (range_of (rowFor "track") 0) yellow) (in_range (range_of (rowFor "track") 1) red) }
+    ensures { result ≡ both (in_range (range_of (row_for "track") 0) yellow) (in_range (range_of (row_for "track") 1) red) }
 {
     if fits(TRACK_ROW, 0, yellow) {
         fits(TRACK_ROW, 1, red)

@@ -53,9 +53,9 @@ at_second p q d wide slow e =
     omega arith
 
 -- a point that follows in a rising list is farther than those before it
-farther : {ps : List Point} (o p q : Point) → RisingFrom o ps → Next p q ps → o.feet < p.feet
-farther o p q r here = r.0
-farther o p q r (later {o = a} n) = omega (arith, farther a p q r.2 n)
+farther : (p q : Point) {ps : List Point} (o : Point) → RisingFrom o ps → Next p q ps → o.feet < p.feet
+farther p q o r here = r.0
+farther p q o r (later {o = a} n) = omega (arith, farther p q a r.2 n)
 
 -- where the distance is the first point's own, the line gives that point's time
 at_first : (p q : Point) (d : Feet) (r : ℕ) → p.feet < q.feet → d.0 ≡ p.feet → r ≡ p.tenths → OnTheLine p q d r
@@ -64,16 +64,16 @@ at_first p q d r wide e f =
     rw (none, f, mul-zero) (omega arith, omega arith)
 
 -- the points around the distance are the first two of the list, or the walk along it comes to them
-line_of : {os : List Point} (p q : Point) (d : Feet) → Rising os → Next p q os → p.feet ≤ d.0 → d.0 ≤ q.feet → OnTheLine p q d (level_of os d).0
+line_of : (p q : Point) (d : Feet) {os : List Point} → Rising os → Next p q os → p.feet ≤ d.0 → d.0 ≤ q.feet → OnTheLine p q d (level_of os d).0
 unfolding level_of level_from pick
 line_of p q d r here lo hi = rw (le-leb d.0 q.feet hi) (on_the_line p q d r.0)
 line_of p q d r (later {o = o} (here {ps = ps})) lo hi =
     cases (λ (t : Tenths). OnTheLine p q d t.0) (leb d.0 p.feet) (between_of o p d) _
     (λ t. let e : d.0 ≡ p.feet = omega (arith, leb-true d.0 p.feet t) in
     at_first p q d (between_of o p d).0 r.2.0 e (at_second o p d r.0 r.1 e))
-    (λ t. line_of {os = p ∷ q ∷ ps} p q d r.2 here lo hi)
+    (λ t. line_of p q d {os = p ∷ q ∷ ps} r.2 here lo hi)
 line_of p q d r (later {o = o} (later {o = a} {ps = ps} n)) lo hi =
-    rw (lt-leb d.0 a.feet (omega (arith, farther a p q r.2 n))) (line_of {os = a ∷ ps} p q d r.2 (later n) lo hi)
+    rw (lt-leb d.0 a.feet (omega (arith, farther p q a r.2 n))) (line_of p q d {os = a ∷ ps} r.2 (later n) lo hi)
 
 pub level_line : LevelOnTheLine
 level_line ps p q d r n lo hi = line_of p q d r n lo hi

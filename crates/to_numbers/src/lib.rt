@@ -46,7 +46,7 @@ fn with_point(v: &mut [u32; NUMBERS], at: usize, p: Point)
 }
 
 fn with_phases(v: &mut [u32; NUMBERS], phases: [Phase; MOST_PHASES])
-    ensures { v.new ≡ sets v.old (placeFor "phase") (numbersFrom phaseNumbers zeroPhase mostPhases 0 phases) }
+    ensures { v.new ≡ sets v.old (place_for "phase") (numbers_from phase_numbers zero_phase most_phases 0 phases) }
 {
     let mut i: usize = 0;
     while i < MOST_PHASES {
@@ -67,7 +67,7 @@ fn with_dwell(v: &mut [u32; NUMBERS], dwell: [u32; MOST_PHASES])
 }
 
 fn with_points(v: &mut [u32; NUMBERS], points: [Point; MOST_POINTS])
-    ensures { v.new ≡ sets v.old (placeFor "point") (numbersFrom pointNumbers zeroPoint mostPoints 0 points) }
+    ensures { v.new ≡ sets v.old (place_for "point") (numbers_from point_numbers zero_point most_points 0 points) }
 {
     let mut i: usize = 0;
     while i < MOST_POINTS {
