@@ -21,7 +21,7 @@ ticked u call n = run u (replicate n (tick None call))
 module _ (call : Bool) (n i : ℕ) (u : Unit) where
   pub tick_left : i < n → ticked u call (n - i) ≡ ticked (tick_of u None call).unit call (n - (i + 1))
   unfolding run answer_to
-  tick_left = units.turn-left (λ m v. ticked v call m) (λ v. (tick_of v None call).unit) (λ v. refl) (λ m v. refl) n i u
+  tick_left = units.turn_left (λ m v. ticked v call m) (λ v. (tick_of v None call).unit) (λ v. refl) (λ m v. refl) n i u
 
   pub none_left : n ≤ i → ticked u call (n - i) ≡ u
   unfolding run answer_to
@@ -31,7 +31,7 @@ module _ (call : Bool) (n i : ℕ) (u : Unit) where
 module _ (call : Bool) (n i : ℕ) (r : Running) where
   pub run_left : i < n → ran_on r call (n - i) ≡ ran_on (running.tick_of r None call).running call (n - (i + 1))
   unfolding ran_on
-  run_left = units.turn-left (λ m v. ran_on v call m) (λ v. (running.tick_of v None call).running) (λ v. refl) (λ m v. refl) n i r
+  run_left = units.turn_left (λ m v. ran_on v call m) (λ v. (running.tick_of v None call).running) (λ v. refl) (λ m v. refl) n i r
 
   pub no_run_left : n ≤ i → ran_on r call (n - i) ≡ r
   unfolding ran_on

@@ -60,7 +60,7 @@ module _ (t : Lengths) (s : Sheet) (call : Bool) (lasts : 0 < t.l51) where
   settle_rests (TrackYellow p z k) = yellow_rests p z k
   settle_rests (TrackRed p z k) = red_rests p z k
   settle_rests (Open p n g w) = tt
-  settle_rests (Ending p n z l w) = settled_rests p n z (settle_phase (phase_of s n) l w) (phase_rest.nothing-due (phase_of s n) l w)
+  settle_rests (Ending p n z l w) = settled_rests p n z (settle_phase (phase_of s n) l w) (phase_rest.nothing_due (phase_of s n) l w)
   settle_rests (ClearanceGreen k) = green_rests k
   settle_rests AllRed = tt
 

@@ -128,14 +128,14 @@ module _ (s : Sheet) (t : Lengths) (w : Goes s t) where
 
 pub met_in_track_green : MetInTrackGreen
 met_in_track_green =
-    let w = worked.paper-goes in
+    let w = worked.paper_goes in
     let at = met_stage paper_sheet paper w [] tt (calls 492) in (
       begins_at_track paper_sheet paper w,
-      at 1 TrackGreen tt walked.paper-1,
-      at 2 (ClearanceGreen 0) tt walked.paper-2,
-      at 491 (ClearanceGreen 489) tt walked.paper-491,
-      at 492 (TrackYellow Train ToDwell 0) tt walked.paper-492,
-      at_two paper_sheet paper w 491 (omega arith) (omega arith) tt tt walked.paper-1 walked.paper-2,
+      at 1 TrackGreen tt walked.paper_1,
+      at 2 (ClearanceGreen 0) tt walked.paper_2,
+      at 491 (ClearanceGreen 489) tt walked.paper_491,
+      at 492 (TrackYellow Train ToDwell 0) tt walked.paper_492,
+      at_two paper_sheet paper w 491 (omega arith) (omega arith) tt tt walked.paper_1 walked.paper_2,
     )
 
 -- ---- as phase 4 begins
@@ -145,10 +145,10 @@ module _ (s : Sheet) (t : Lengths) (w : Goes s t) (f : Four s t) (l : 226 < t.l5
   begins_before_four = may_begin s t w towards_four tt refl f.normal
 
   met_226 : (at_end (before_four s) (calls 227) 226).stage ≡ Ending Normal 4 ToClearance (Red 19) (Clearance 100)
-  met_226 = met_stage s t w towards_four tt (calls 227) 226 (Ending Normal 4 ToClearance (Red 19) (Clearance 100)) tt f.at-226
+  met_226 = met_stage s t w towards_four tt (calls 227) 226 (Ending Normal 4 ToClearance (Red 19) (Clearance 100)) tt f.at_226
 
   met_227 : (at_end (before_four s) (calls 227) 227).stage ≡ ClearanceGreen 0
-  met_227 = met_stage s t w towards_four tt (calls 227) 227 (ClearanceGreen 0) tt f.at-227
+  met_227 = met_stage s t w towards_four tt (calls 227) 227 (ClearanceGreen 0) tt f.at_227
 
   at_227 : (n : ℕ) → n ≡ 227 → StartsWith (before_four s) (calls 227) n
   at_227 n e =
@@ -158,8 +158,8 @@ module _ (s : Sheet) (t : Lengths) (w : Goes s t) (f : Four s t) (l : 226 < t.l5
 
 pub met_in_phase_four : MetInPhaseFour
 met_in_phase_four =
-    let w = worked.paper-goes in
-    let f = walked.paper-four in (
+    let w = worked.paper_goes in
+    let f = walked.paper_four in (
       begins_before_four paper_sheet paper w f (omega arith),
       met_226 paper_sheet paper w f (omega arith),
       met_227 paper_sheet paper w f (omega arith),
@@ -169,44 +169,44 @@ met_in_phase_four =
 -- ---- the tight sheet
 pub ends_at_forty : EndsAtForty
 ends_at_forty =
-    let w = worked.tight-goes in
+    let w = worked.tight_goes in
     let line = line_is tight tightly w [] tt in
     let l03 = line (λ l. l.l03) 2 (ap (λ (t : Lengths). t.l03) w.lengths) in
     let l51 = line (λ l. l.l51) 480 (ap (λ (t : Lengths). t.l51) w.lengths) in
-    let l40 = line (λ l. l.l40) 482 worked.tight-l40 in (
+    let l40 = line (λ l. l.l40) 482 worked.tight_l40 in (
       begins_at_track tight tightly w,
       subst (StartsWith (at_track tight) (calls 482)) (sym l03)
-          (at_two tight tightly w 481 (omega arith) (omega arith) tt tt walked.tight-1 walked.tight-2),
+          (at_two tight tightly w 481 (omega arith) (omega arith) tt tt walked.tight_1 walked.tight_2),
       omega arith,
     )
 
 pub starts_at_seventeen : StartsAtSeventeen
 starts_at_seventeen =
-    let w = worked.tight-goes in
-    let f = walked.tight-four in
+    let w = worked.tight_goes in
+    let f = walked.tight_four in
     let line = line_is tight tightly w towards_four tt in
-    let l17 = line (λ l. l.l17) 227 worked.tight-l17 in
-    let l25 = line (λ l. l.l25) 206 worked.tight-l25 in
-    let l28 = line (λ l. l.l28) 40 worked.tight-l28 in
-    let l34 = line (λ l. l.l34) 473 worked.tight-l34 in (
+    let l17 = line (λ l. l.l17) 227 worked.tight_l17 in
+    let l25 = line (λ l. l.l25) 206 worked.tight_l25 in
+    let l28 = line (λ l. l.l28) 40 worked.tight_l28 in
+    let l34 = line (λ l. l.l34) 473 worked.tight_l34 in (
       begins_before_four tight tightly w f (omega arith),
       at_227 tight tightly w f (omega arith) _ l17,
-      line (λ l. l.l35) 0 worked.tight-l35,
+      line (λ l. l.l35) 0 worked.tight_l35,
       omega arith,
     )
 
 -- ---- the gate and the trailer
 pub just_spared : JustSpared
 just_spared =
-    let w = worked.spared-goes in
-    let f = walked.spared-four in
+    let w = worked.spared_goes in
+    let f = walked.spared_four in
     let line = line_is (advanced 297) longer w towards_four tt in
-    let l17 = line (λ l. l.l17) 227 worked.spared-l17 in
-    let l36 = line (λ l. l.l36) 297 worked.spared-l36 in
-    let l53 = line (λ l. l.l53) 71 worked.spared-l53 in
-    let l54 = line (λ l. l.l54) 77 worked.spared-l54 in
-    let l60 = line (λ l. l.l60) 78 worked.spared-l60 in
-    let l61 = line (λ l. l.l61) 297 worked.spared-l61 in (
+    let l17 = line (λ l. l.l17) 227 worked.spared_l17 in
+    let l36 = line (λ l. l.l36) 297 worked.spared_l36 in
+    let l53 = line (λ l. l.l53) 71 worked.spared_l53 in
+    let l54 = line (λ l. l.l54) 77 worked.spared_l54 in
+    let l60 = line (λ l. l.l60) 78 worked.spared_l60 in
+    let l61 = line (λ l. l.l61) 297 worked.spared_l61 in (
       begins_before_four (advanced 297) longer w f (omega arith),
       at_227 (advanced 297) longer w f (omega arith) _ l17,
       omega arith,
@@ -215,16 +215,16 @@ just_spared =
 
 pub just_hit : JustHit
 just_hit =
-    let w = worked.hit-goes in
-    let f = walked.hit-four in
+    let w = worked.hit_goes in
+    let f = walked.hit_four in
     let u = before_four (advanced 296) in
     let line = line_is (advanced 296) longer w towards_four tt in
-    let l17 = line (λ l. l.l17) 227 worked.hit-l17 in
-    let l36 = line (λ l. l.l36) 296 worked.hit-l36 in
-    let l53 = line (λ l. l.l53) 71 worked.hit-l53 in
-    let l54 = line (λ l. l.l54) 77 worked.hit-l54 in
-    let l60 = line (λ l. l.l60) 78 worked.hit-l60 in
-    let l61 = line (λ l. l.l61) 297 worked.hit-l61 in (
+    let l17 = line (λ l. l.l17) 227 worked.hit_l17 in
+    let l36 = line (λ l. l.l36) 296 worked.hit_l36 in
+    let l53 = line (λ l. l.l53) 71 worked.hit_l53 in
+    let l54 = line (λ l. l.l54) 77 worked.hit_l54 in
+    let l60 = line (λ l. l.l60) 78 worked.hit_l60 in
+    let l61 = line (λ l. l.l61) 297 worked.hit_l61 in (
       begins_before_four (advanced 296) longer w f (omega arith),
       at_227 (advanced 296) longer w f (omega arith) _ l17,
       omega arith,
@@ -234,15 +234,15 @@ just_hit =
 -- ---- line 25 decides line 51
 pub decided_by_twenty_five : DecidedByTwentyFive
 decided_by_twenty_five =
-    let w = worked.levelled-goes in
+    let w = worked.levelled_goes in
     let line = line_is levelled steeply w [] tt in
     let at = met_stage levelled steeply w [] tt (calls 302) in (
       begins_at_track levelled steeply w,
-      line (λ l. l.l25) 292 worked.levelled-l25,
+      line (λ l. l.l25) 292 worked.levelled_l25,
       line (λ l. l.l51) 300 (ap (λ (t : Lengths). t.l51) w.lengths),
-      at 301 (ClearanceGreen 299) tt walked.levelled-301,
-      at 302 (TrackYellow Train ToDwell 0) tt walked.levelled-302,
-      at_two levelled steeply w 301 (omega arith) (omega arith) tt tt walked.levelled-1 walked.levelled-2,
+      at 301 (ClearanceGreen 299) tt walked.levelled_301,
+      at 302 (TrackYellow Train ToDwell 0) tt walked.levelled_302,
+      at_two levelled steeply w 301 (omega arith) (omega arith) tt tt walked.levelled_1 walked.levelled_2,
     )
 
 -- ---- what the words keep out
@@ -250,16 +250,16 @@ decided_by_twenty_five =
 too_soon : (past : List Event) → TicksOnly past → shown paper paper_sheet past (up_to 1 (calls 1)) ≡ ClearanceGreen 0
     → (g : ℕ) → Demanded (run (start_of paper_sheet).unit past) (calls 1) g → ⊥
 too_soon past o e g h =
-    let w = worked.paper-goes in
+    let w = worked.paper_goes in
     let l03 = line_is paper_sheet paper w past o (λ l. l.l03) 2 (ap (λ (t : Lengths). t.l03) w.lengths) in
     let green = met_stage paper_sheet paper w past o (calls 1) 1 (ClearanceGreen 0) tt e in
     h.no_sooner.first 1 (omega arith) (omega (arith, h.no_sooner.not_before)) (0, green)
 
 pub must_begin : MustBegin
-must_begin = too_soon (calls 1) tt walked.counted-1
+must_begin = too_soon (calls 1) tt walked.counted_1
 
 pub not_in_transfer : NotInTransfer
-not_in_transfer = too_soon (towards_four ++ calls 226) tt walked.transfer-1
+not_in_transfer = too_soon (towards_four ++ calls 226) tt walked.transfer_1
 
 -- with no call and no command a unit in track green stays as it is
 stays_off : (n k : ℕ) → before paper paper_sheet (up_to n (replicate k (tick None false))) ≡ now TrackGreen 0
@@ -267,7 +267,7 @@ unfolding stepped
 stays_off zero k = refl
 stays_off (suc n) zero = refl
 stays_off (suc n) (suc k) =
-    ap (λ (x : Now). stepped paper paper_sheet x (up_to n (replicate k (tick None false)))) walked.off-still ∙ stays_off n k
+    ap (λ (x : Now). stepped paper paper_sheet x (up_to n (replicate k (tick None false)))) walked.off_still ∙ stays_off n k
 
 ticks_off : (n k : ℕ) → TicksOnly (up_to n (replicate k (tick None false)))
 ticks_off zero k = tt
@@ -277,50 +277,50 @@ ticks_off (suc n) (suc k) = ticks_off n k
 went_off : (n : ℕ) → shown paper paper_sheet [] (up_to (suc (suc n)) goes_off) ≡ TrackGreen
 unfolding stepped
 went_off n =
-    ap (λ (x : Now). (stepped paper paper_sheet x (up_to n (replicate 226 (tick None false)))).stage) walked.off-again
+    ap (λ (x : Now). (stepped paper paper_sheet x (up_to n (replicate 226 (tick None false)))).stage) walked.off_again
     ∙ ap (λ (x : Now). x.stage) (stays_off n 226)
 
 no_green : (g : ℕ) → 2 ≤ g → g ≤ 227 → Demanded (at_track paper_sheet) goes_off g → ⊥
 no_green zero a b h = omega arith
 no_green (suc zero) a b h = omega arith
 no_green (suc (suc n)) a b h =
-    let w = worked.paper-goes in
+    let w = worked.paper_goes in
     let l51 = line_is paper_sheet paper w [] tt (λ l. l.l51) 490 (ap (λ (t : Lengths). t.l51) w.lengths) in
     let green = met_stage paper_sheet paper w [] tt goes_off (suc (suc n)) TrackGreen (ticks_off n 226) (went_off n) in
     dark (at_end (at_track paper_sheet) goes_off (suc (suc n))) (rw green tt) (h.answered.green (suc (suc n)) (omega arith) (omega arith) (omega arith))
 
 pub must_stay_on : MustStayOn
 must_stay_on g h =
-    let w = worked.paper-goes in
+    let w = worked.paper_goes in
     let l03 = line_is paper_sheet paper w [] tt (λ l. l.l03) 2 (ap (λ (t : Lengths). t.l03) w.lengths) in
-    let l17 = line_is paper_sheet paper w [] tt (λ l. l.l17) 227 worked.paper-l17 in
+    let l17 = line_is paper_sheet paper w [] tt (λ l. l.l17) 227 worked.paper_l17 in
     no_green g (omega (arith, h.no_sooner.not_before)) (omega (arith, h.answered.by_line17)) h
 
 -- ---- what refusals 6 and 10 keep out
 pub without_six : WithoutSix
 without_six =
     let on : (es : List Event) → stepped_at (clears_by 54) towards_four es ≡ shown paper (clears_by 54) towards_four es =
-    λ es. ap (λ (t : Lengths). shown t (clears_by 54) towards_four es) worked.six-lengths in
-    (worked.six-beside, worked.six-refused, worked.six-l17, on (calls 126) ∙ walked.six-126, on (calls 127) ∙ walked.six-127)
+    λ es. ap (λ (t : Lengths). shown t (clears_by 54) towards_four es) worked.six_lengths in
+    (worked.six_beside, worked.six_refused, worked.six_l17, on (calls 126) ∙ walked.six_126, on (calls 127) ∙ walked.six_127)
 
 pub without_ten : WithoutTen
 without_ten =
     let on : (es : List Event) → stepped_at (phases_of 9) [] es ≡ shown paper (phases_of 9) [] es =
-    λ es. ap (λ (t : Lengths). shown t (phases_of 9) [] es) worked.ten-lengths in
-    (worked.ten-beside, worked.ten-refused, worked.ten-l17, on (as_yellow_starts 59) ∙ walked.ten-61, on (as_yellow_starts 60) ∙ walked.ten-62)
+    λ es. ap (λ (t : Lengths). shown t (phases_of 9) [] es) worked.ten_lengths in
+    (worked.ten_beside, worked.ten_refused, worked.ten_l17, on (as_yellow_starts 59) ∙ walked.ten_61, on (as_yellow_starts 60) ∙ walked.ten_62)
 
 -- ---- side streets
 module _ (n : ℕ) (st : Stage) (o : TicksOnly (up_to n as_it_goes_off)) (h : (stepped paper side_streets (now AllRed 2) (up_to n as_it_goes_off)).stage ≡ st) where
   from_dwell : (at_end (run (start_of side_streets).unit (calls 552)) as_it_goes_off n).stage ≡ st
   from_dwell =
-      met_stage side_streets paper worked.side-goes (calls 552) tt as_it_goes_off n st o
-      (ap (λ (x : Now). (stepped paper side_streets x (up_to n as_it_goes_off)).stage) walked.side-552 ∙ h)
+      met_stage side_streets paper worked.side_goes (calls 552) tt as_it_goes_off n st o
+      (ap (λ (x : Now). (stepped paper side_streets x (up_to n as_it_goes_off)).stage) walked.side_552 ∙ h)
 
 pub left_at_sixteen : LeftAtSixteen
 left_at_sixteen = (
-  ap (λ (u : Unit). u.stage) (past_is side_streets paper worked.side-goes (calls 552) tt) ∙ ap (λ (x : Now). x.stage) walked.side-552,
-  line_is side_streets paper worked.side-goes (calls 552) tt (λ l. l.l16) ticks_back worked.side-l16,
-  from_dwell 1 _ tt walked.side-1,
-  from_dwell ticks_back _ tt walked.side-last,
-  from_dwell (1 + ticks_back) _ tt walked.side-back,
+  ap (λ (u : Unit). u.stage) (past_is side_streets paper worked.side_goes (calls 552) tt) ∙ ap (λ (x : Now). x.stage) walked.side_552,
+  line_is side_streets paper worked.side_goes (calls 552) tt (λ l. l.l16) ticks_back worked.side_l16,
+  from_dwell 1 _ tt walked.side_1,
+  from_dwell ticks_back _ tt walked.side_last,
+  from_dwell (1 + ticks_back) _ tt walked.side_back,
 )

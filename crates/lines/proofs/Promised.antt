@@ -15,23 +15,23 @@ refused_zeros s r line e = rw e refl
 
 pub none_in_mode_two : NoneInModeTwo
 unfolding l13 l14
-none_in_mode_two s e = (rules.none-in-mode-two (pedestrian_phase s) _ e, rules.none-in-mode-two (pedestrian_phase s) _ e)
+none_in_mode_two s e = (rules.none_in_mode_two (pedestrian_phase s) _ e, rules.none_in_mode_two (pedestrian_phase s) _ e)
 
 pub twenty_two : TwentyTwoUp
 unfolding l22
-twenty_two s = rules.line22-up (l21 s)
+twenty_two s = rules.line22_up (l21 s)
 
 pub thirty_eight : ThirtyEightUp
 unfolding l36 l38
-thirty_eight s = rules.line38-up (l33 s) (l37 s)
+thirty_eight s = rules.line38_up (l33 s) (l37 s)
 
 pub fifty_one_lem : FiftyOneUp
 unfolding l51
-fifty_one_lem s = rules.line51-up (l44 s) (l50 s) (l25 s)
+fifty_one_lem s = rules.line51_up (l44 s) (l50 s) (l25 s)
 
 pub fifty_nine : FiftyNineDown
 unfolding l59
-fifty_nine s = rules.line59-down (l57 s) (l58 s)
+fifty_nine s = rules.line59_down (l57 s) (l58 s)
 
 pub warning_enough : WarningEnough
 unfolding l29 l35

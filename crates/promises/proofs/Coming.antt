@@ -143,7 +143,7 @@ module _ (t : Lengths) (s : Sheet) (c : Command) (call : Bool) (x : Now) (lasts 
   pub next_tick : (k : ℕ) → Within t s (suc k) x.stage → Next t s k (end_of t s c call x)
   next_tick k h =
       let first : after_times t s call x ≡ settle t s call (add_one t s x.stage) =
-      ap (settle t s call) (flow.overdue-coming t x.count (phase_shown x.stage) (add_one t s x.stage) (within_added t s (suc k) x.stage h)) in
+      ap (settle t s call) (flow.overdue_coming t x.count (phase_shown x.stage) (add_one t s x.stage) (within_added t s (suc k) x.stage h)) in
       let a : Next t s k (after_times t s call x) = subst (Next t s k) (sym first) (next t s call k x.stage h) in
       let st = after_times t s call x in
       subst (Next t s k) (sym (flow.through t s c call x (phase_shown st) st (next_coming t s k st a) (nothing_due t s call _ lasts))) a

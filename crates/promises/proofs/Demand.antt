@@ -80,7 +80,7 @@ module _ (u : Unit) (f : fits u ≡ true) (n : in_normal u.stage ≡ true) (z : 
                 by_line17 = omega (arith, high);
                 green = λ n a b d. h.green.shows n a b (omega arith);
                 vehicle = λ e train off w v. omega (arith, high, sheets.warning s a (omega arith));
-                gates = λ down d. omega (arith, h.low, sheets.gates-down s a);
+                gates = λ down d. omega (arith, h.low, sheets.gates_down s a);
               };
           spared = record { trailer = λ e lights gate gone i j k. omega (arith, high, sheets.advance s a (omega arith)) };
           no_sooner = record { not_before = omega (arith, h.low); first = h.green.before; once = λ n a b. h.green.after n a (omega arith) };

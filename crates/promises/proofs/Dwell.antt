@@ -114,7 +114,7 @@ none_leaves : (u : Unit) (n : ℕ) → Leaves u n 0 → ⊥
 none_leaves u n h = subst IsOver (sym (left_none (phase_of u.sheet n) (Stays h.light h.walker) h.left)) tt
 
 unit_yellow : (u : Unit) → fits u ≡ true → 0 < (lengths_of u.sheet).track_yellow
-unit_yellow u f = omega (arith, (sheets.is-sound u.sheet (fits_sheet u f)).track_yellow.low)
+unit_yellow u f = omega (arith, (sheets.is_sound u.sheet (fits_sheet u f)).track_yellow.low)
 
 -- one tick takes one off
 module _ (u : Unit) (c : Command) (call : Bool) (n k : ℕ) (f : fits u ≡ true) (h : Leaves u n (suc k)) where

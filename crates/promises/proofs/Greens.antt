@@ -209,7 +209,7 @@ module _ (u : Unit) (c : Command) (f : fits u ≡ true) (n : in_normal u.stage �
       let a = fits_sheet u f in
       let st = after_command t s c true (after_times t s true (now_of u)) in
       let g = after_command_fits t s (named_listed s a) c true _ (after_times_fits t s true (now_of u) (fits_told u f).stage) in
-      let d = due t s a (unit_lasts u f) (sheets.track-time s a) true st (nothing_due t s true _ (unit_lasts u f)) g in
+      let d = due t s a (unit_lasts u f) (sheets.track_time s a) true st (nothing_due t s true _ (unit_lasts u f)) g in
       let q : called t true (counting t (now_of u)) u.count st ≡ answered st =
       ap (λ (b : Bool). called t true b u.count st) (counts t s (now_of u) c n (omega arith)) ∙ begins_now t u.count st e in
       subst (λ (v : Stage). Next t s (sixteen s) (settle t s true v)) (sym q) d

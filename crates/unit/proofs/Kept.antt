@@ -71,7 +71,7 @@ fits_kept u (e ∷ es) f = fits_kept (answer_to u e).unit es ((after u e).fit f)
 
 -- ---- from a fresh start
 pub start_accepted : (s : Sheet) → (start_of s).answer ≡ Fine → accepted s ≡ true
-start_accepted s e = ap is_fine (sym (refused.restarted-answer (worksheet_of s).answer s (fresh zero_sheet)) ∙ e)
+start_accepted s e = ap is_fine (sym (refused.restarted_answer (worksheet_of s).answer s (fresh zero_sheet)) ∙ e)
 
 pub start_fits : StartFits
 unfolding restarted pick
@@ -81,7 +81,7 @@ start_fits s e = rw (start_accepted s e) (fresh_fits s (start_accepted s e))
 tick_not_twenty : (u : Unit) (c : Command) (call : Bool) → fits u ≡ true → answer_number (tick_of u c call).answer ≡ 20 → ⊥
 unfolding tick_of pick
 tick_not_twenty u c call f e =
-    refused.not-twenty (ticked (lengths_of u.sheet) u.sheet (now_of u) c call).allowed (rw f at e)
+    refused.not_twenty (ticked (lengths_of u.sheet) u.sheet (now_of u) c call).allowed (rw f at e)
 
 place_number_lem : (a b : Bool) → answer_number (or_else (unless a LoadNotNow 0) (unless b IssueNotNewer 0)) ≡ 20 → ⊥
 unfolding or_else unless
@@ -104,7 +104,7 @@ load_not_twenty u s own f e =
     neither (unless (fits u) UnitUnfit 0) (or_else (worksheet_of s).answer (place_answer u s))
     (λ z. let x = rw f at z in omega arith)
     (neither (worksheet_of s).answer (place_answer u s) own (place_number_lem (resting u.stage u.count) (newer u.sheet.issue s.issue)))
-    (ap answer_number (sym (refused.restarted-answer (load_answer u s) s u)) ∙ e)
+    (ap answer_number (sym (refused.restarted_answer (load_answer u s) s u)) ∙ e)
 
 pub not_twenty : ((s : Sheet) → NotSo s) → (u : Unit) (e : Event) → fits u ≡ true → answer_number (answer_to u e).answer ≡ 20 → ⊥
 unfolding answer_to

@@ -49,7 +49,7 @@ module _ (u : Unit) (c : Command) (call : Bool) where
   as_none : (b : Bool) → answer_number (answers c b).answer ≡ 23 → (answers c b).unit ≡ (answers None b).unit
   unfolding pick
   as_none true e =
-      ap (holding u.sheet) (flow.as-with-none (lengths_of u.sheet) u.sheet (now_of u) c call (refused_so (next c).allowed e))
+      ap (holding u.sheet) (flow.as_with_none (lengths_of u.sheet) u.sheet (now_of u) c call (refused_so (next c).allowed e))
   as_none false e = absurd (omega arith)
 
 pub unchanged : Unchanged
