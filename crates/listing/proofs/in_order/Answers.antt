@@ -1,0 +1,8 @@
+-- `listing::in_order` meets its contract: the numbers in order. Assumes nothing.
+use Rattle.lines.specs.Worksheet.{in_order}
+use Rattle.listing.proofs.in_order.Goals as goal
+
+pub returns : goal.returns
+unfolding in_order
+returns c =
+    rw (c.wide.ensures, c.wide-2.ensures)
