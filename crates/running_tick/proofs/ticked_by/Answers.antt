@@ -1,0 +1,12 @@
+-- `running_tick::ticked_by` meets its contract: test by test. Assumes nothing.
+use Rattle.units.proofs.Steps.{steps}
+use Rattle.running.specs.Running.{ticked_by}
+use Rattle.running_tick.proofs.ticked_by.Goals as goal
+
+pub returns-then-fits : goal.returns-then-fits
+unfolding ticked_by
+returns-then-fits c = search steps
+
+pub returns-else-fits : goal.returns-else-fits
+unfolding ticked_by
+returns-else-fits c = search steps
