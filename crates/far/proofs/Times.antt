@@ -5,7 +5,6 @@ use native.Mathlib.Nat.{le_of_mul-le-mul_right}
 use native.Mathlib.Omega.{arith}
 use lib.IntN.{ℤ}
 use borrow.Author.Tests.{ltb-true, ltb-false}
-use Rattle.units.specs.Numbers.{up}
 use Rattle.units.specs.declared.Feet.{Feet}
 use Rattle.units.proofs.Rounding.{up_le, up_enough, up_taken, up_rises}
 use Rattle.units.proofs.Steps.{cases}

@@ -23,7 +23,7 @@ use Rattle.sheet.specs.declared.Refusal.TheVariants.{OutOfRange}
 use Rattle.sheet.specs.Entries.{Shaped, listed_phases, dwell_numbers, nth_phase, nth_point}
 use Rattle.sheet.specs.Zero.{zero_phase, zero_point}
 use Rattle.sheet.proofs.Answers.{fine_both, holds}
-use Rattle.rows.specs.Table.{Range, ◌to◌, list, none, kinds, rows, kind_of, form_of, ranges_of, range_of, width_of, place_of, used_ranges, in_range, in_ranges, present, phase_kind, point_kind, row_count, most_phases, most_points, row_for, place_for, first_phase, first_point}
+use Rattle.rows.specs.Table.{Range, ◌to◌, list, none, kinds, kind_of, form_of, ranges_of, range_of, width_of, place_of, used_ranges, in_range, in_ranges, present, phase_kind, point_kind, row_count, most_phases, most_points, row_for, place_for, first_phase, first_point}
 use Rattle.rows.proofs.Tables.{dwell_place_lem}
 use Rattle.numbers.specs.Flat.{vehicle_number, numbers_from, flat_of, phase_place, point_place}
 use Rattle.faults.specs.Lines.{rises_after, rule_fault, row_fault, here_fault, line_after, fault_from, lines_fault}

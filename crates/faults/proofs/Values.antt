@@ -26,7 +26,7 @@ use Rattle.sheet.specs.Entries.{nth_phase, nth_point}
 use Rattle.sheet.proofs.Answers.{or_or, or_fine}
 use Rattle.rows.specs.Table.{Range, ◌to◌, kind_of, form_of, ranges_of, range_of, width_of, place_of, used_ranges, in_range, in_ranges, present, row_count, most_phases, most_points, row_for, place_for, first_phase, first_point, phase_kind, point_kind}
 use Rattle.rows.proofs.Tables.{dwell_place_lem}
-use Rattle.numbers.specs.Flat.{vehicle_number, phase_numbers, point_numbers, phase_place, point_place, phase_at, point_at, numbers_from, flat_of, entries_from}
+use Rattle.numbers.specs.Flat.{vehicle_number, phase_numbers, point_numbers, phase_place, point_place, phase_at, point_at, numbers_from, flat_of}
 use Rattle.numbers.proofs.Entries.{entries_all}
 use Rattle.faults.specs.Dwell.{dwell_inside, dwell_line}
 use Rattle.faults.specs.Lines.{phase_fault, starts_at_zero, point_rises, rises_after, rule_fault, row_fault, here_fault, line_after, fault_from, lines_fault}

@@ -12,7 +12,7 @@ use Rattle.units.specs.Numbers.{pick}
 use Rattle.units.proofs.Steps.{split}
 use Rattle.units.proofs.Tested.{at}
 use Rattle.rows.specs.declared.table.Key.{Key}
-use Rattle.rows.specs.Table.{Kind, ◌to◌, kinds, none, most_phases, kind_count, row_count, number_count, numbers_in, place_for, first_phase, first_point, kind_of, key_of, form_of, absent_of, ranges_of}
+use Rattle.rows.specs.Table.{Kind, ◌to◌, kinds, none, kind_count, row_count, number_count, numbers_in, place_for, first_phase, first_point, kind_of, key_of, form_of, absent_of, ranges_of}
 use Rattle.rows.specs.Facts.{letters, facts_of, head_of}
 use Rattle.rows.proofs.Tables.{ruled, kind_few, kind_past, past_phases, shift}
 

@@ -1,7 +1,7 @@
 -- The code's rules by the number of a row are the printed table: one computed test for each. Assumes nothing.
 use mathlib.Core.Path.{◌≡◌, refl, sym, ap, subst, ◌∙◌}
 use mathlib.Core.Bool.{Bool}
-use mathlib.Core.List.{List, [], ◌∷◌}
+use mathlib.Core.List.{List, []}
 use Prim.Native.Nat.{ℕ, zero, suc, ◌+◌, ◌-◌, ◌*◌, ◌<◌, ◌≤◌}
 use native.Mathlib.Omega.{arith}
 use lib.Dec.{T, eqb, leb, ltb, eqb→eq, leb→le, ltb→lt, lt→ltb}
@@ -9,7 +9,7 @@ use lib.ListN.{get_or, length, get_or-eq_default}
 use Rattle.units.specs.Numbers.{pick}
 use borrow.Author.Tests.{eq-eqb, ltb-true, ltb-false}
 use Rattle.units.proofs.Steps.{split}
-use Rattle.units.proofs.Tested.{given, given_then, all_below, at, all, entry}
+use Rattle.units.proofs.Tested.{given, given_then, all_below, at}
 use Rattle.rows.specs.Table.{Range, ◌to◌, plain, list, kinds, rows, none, most_phases, kind_count, row_count, number_count, row_for, place_for, phase_kind, point_kind, first_phase, first_point, kind_of, form_of, ranges_of, range_of, width_of, place_of}
 
 -- ---- the code's rules, in the order of its tests

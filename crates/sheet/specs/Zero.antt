@@ -1,5 +1,5 @@
 -- "gives only zeros beside its number (vehicle car)": the sheet of zeros.
-use Rattle.std.specs.Prelude.{ℕ, List, pos, replicate}
+use Rattle.std.specs.Prelude.{pos, replicate}
 use Rattle.sheet.specs.declared.Phase.{Phase}
 use Rattle.sheet.specs.declared.Point.{Point}
 use Rattle.sheet.specs.declared.Sheet.{Sheet}

@@ -15,7 +15,7 @@ use Rattle.acceleration.proofs.acceleration.Goals as goal
 
 pub returns-then-distance-le400 : goal.returns-then-distance-le400
 unfolding acceleration_of
-returns-then-distance-le400 c = 
+returns-then-distance-le400 c =
     let a = c.args in
     let ps = take a.count a.points in
     pick_yes _ _ _ _ (le-leb a.distance.0 400 (omega arith))
@@ -27,8 +27,7 @@ joined-requires c =
 
 pub returns-then-distance-lt425 : goal.returns-then-distance-lt425
 unfolding acceleration_of
-returns-then-distance-lt425 c = 
-    
+returns-then-distance-lt425 c =
     let a = c.args in
     let ps = take a.count a.points in
     let same = to_z-of_z c.ranges.grade in
@@ -39,8 +38,7 @@ returns-then-distance-lt425 c =
 
 pub returns : goal.returns
 unfolding acceleration_of far_time_of
-returns c = 
-    
+returns c =
     let a = c.args in
     let far = c.far-far.ensures ∙ ap (λ (g : ℤ). far_of a.vehicle g a.distance) (to_z-of_z c.ranges.grade) in
     pick_not _ _ _ _ (lt-leb a.distance.0 400 (omega arith))

@@ -7,7 +7,7 @@ use Rattle.curve.specs.Curve.{between_of}
 use Rattle.acceleration.proofs.between.Goals as goal
 
 pub overflow_mul-rise : goal.overflow_mul-rise
-overflow_mul-rise c = 
+overflow_mul-rise c =
     record { fits = product c.less-rise.result c.less-run.result (omega arith) (omega arith) }
 
 pub overflow_add-result : goal.overflow_add-result

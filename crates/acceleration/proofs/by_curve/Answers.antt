@@ -15,7 +15,7 @@ graded-requires c =
 
 pub returns : goal.returns
 unfolding curve_time_of
-returns c = 
+returns c =
     let a = c.args in
     let level = c.level_time-time.ensures in
     let ps = take a.count a.points in

@@ -17,8 +17,7 @@ unfolding level_of
 returns-then-n-eq0 c =
     let pts : List Point = c.args.points in
     let long : length pts ≡ 16 = search rules in
-    let same : take c.smaller-n.result pts ≡ take c.args.count pts = ap (λ (m : ℕ). take m pts) c.smaller-n.ensures ∙ counted pts c.args.count 16 long in
-    (
+    let same : take c.smaller-n.result pts ≡ take c.args.count pts = ap (λ (m : ℕ). take m pts) c.smaller-n.ensures ∙ counted pts c.args.count 16 long in (
       ap (λ (m : ℕ). level_of (take m pts) c.args.distance) (sym c.if-n-eq0.true)
           ∙ ap (λ (l : List Point). level_of l c.args.distance) same,
       omega arith,

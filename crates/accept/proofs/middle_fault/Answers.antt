@@ -14,7 +14,7 @@ line_of-requires c =
 
 pub returns : goal.returns
 unfolding flat_of numbers_from
-returns c = 
+returns c =
     rw (
       c.or_else-2.ensures,
       c.or_else.ensures,

@@ -1,5 +1,4 @@
 -- `digits::number` meets its contract: at each turn the digits left make the same number. Assumes nothing.
-use Prim.Native.Nat.{◌-◌}
 use mathlib.Core.Path.{◌≡◌, sym, ◌∙◌}
 use mathlib.Core.Bool.{false}
 use lib.Dec.{ltb}

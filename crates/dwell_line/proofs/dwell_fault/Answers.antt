@@ -7,6 +7,6 @@ use borrow.Author.Rules.{rules}
 use Rattle.dwell_line.proofs.dwell_fault.Goals as goal
 
 pub returns : goal.returns
-returns c = 
+returns c =
     let long : length c.args.dwell ≡ most_phases = search rules in
     rw (c.or_else.ensures, c.refuse_unless.ensures, c.rises-rises.ensures, c.refuse_unless-ranges.ensures, c.inside.ensures) (sym (dwell_line_lem c.args.count c.args.dwell c.args.line long))

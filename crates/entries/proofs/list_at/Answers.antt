@@ -23,11 +23,11 @@ overflow_add-at-in-loop-i c =
     omega (arith, place_within c.args.row, c.place-at.ensures)
 
 pub loop-i-preserved : goal.loop-i-preserved
-loop-i-preserved c = 
+loop-i-preserved c =
     let i = c.loop-i.i in
     let stored : c.number.result ≡ each c.args.numbers.now c.args.row i = c.number.ensures ∙ ap (λ (k : ℕ). get_or c.args.numbers.now (k + 1 + i) 0) c.place-at.ensures in
     (omega arith, search rules, rw stored (next_stored (each c.args.numbers.now c.args.row) most_phases i c.loop-i.list c.loop-i.invariant.1 (omega arith) ∙ c.loop-i.invariant.2))
 
 pub returns : goal.returns
-returns c = 
+returns c =
     nothing_left (each c.args.numbers.now c.args.row) most_phases c.loop-i.i c.loop-i.list _ c.loop-i.invariant.1 (omega arith) c.loop-i.invariant.2

@@ -15,6 +15,6 @@ by_table-requires c =
 
 pub returns : goal.returns
 unfolding far_of
-returns c = 
+returns c =
     let column = c.column.ensures ∙ ap (far_column_of c.args.vehicle) (to_z-of_z c.ranges.grade) in
     c.by_table.ensures ∙ (λ i. far_table_of (column i) (c.row.ensures i))

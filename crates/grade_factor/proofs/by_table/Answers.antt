@@ -7,11 +7,11 @@ use Rattle.factor.proofs.Bounds.{widths}
 use Rattle.grade_factor.proofs.by_table.Goals as goal
 
 pub overflow_mul-result : goal.overflow_mul-result
-overflow_mul-result c = 
+overflow_mul-result c =
     omega (arith, widths c.args.c c.args.r c.requires.0 c.requires.1)
 
 pub overflow_mul-result-2 : goal.overflow_mul-result-2
-overflow_mul-result-2 c = 
+overflow_mul-result-2 c =
     omega (arith, widths c.args.c c.args.r c.requires.0 c.requires.1)
 
 pub returns : goal.returns

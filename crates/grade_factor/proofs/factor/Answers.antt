@@ -26,7 +26,7 @@ returns-then-g-lt10 c =
     (pick_yes _ _ _ _ (lt-ltb g 10 (omega (arith, climbed))) c.one_to_one-then-g-lt10.ensures)
 
 pub by_table-requires : goal.by_table-requires
-by_table-requires c = 
+by_table-requires c =
     let a = c.args in
     (rw c.column.ensures (column_stands a.vehicle (min c.uphill-g.result 80) (omega arith)), rw c.row.ensures (row_stands (min a.distance.0 400) (omega arith)))
 

@@ -1,6 +1,6 @@
 -- `ranges::in_ranges` meets its contract: at each turn the numbers left decide as all of them do. Assumes nothing.
 use mathlib.Core.Path.{◌≡◌, refl, sym, ◌∙◌}
-use Prim.Native.Nat.{◌+◌, ◌-◌}
+use Prim.Native.Nat.{◌+◌}
 use Rattle.rows.specs.Table.{ranges_of, width_of, place_of, in_ranges}
 use Rattle.rows.proofs.Tables.{place_room}
 use Rattle.rows.proofs.Keys.{facts_form}

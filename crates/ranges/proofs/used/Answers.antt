@@ -17,18 +17,18 @@ bounds-numbers-at c =
     omega (arith, place_room row h, width_some row h, c.place-at.ensures)
 
 pub overflow_add-result : goal.overflow_add-result
-overflow_add-result c = 
+overflow_add-result c =
     omega (arith, c.if-count-n.true, place_room c.args.row c.requires.0, c.width-n.ensures)
 
 pub returns-then-count-n : goal.returns-then-count-n
-returns-then-count-n c = 
+returns-then-count-n c =
     let e = sym c.requires.1 ∙ c.if-form-eq-LIST.true in (
       omega (arith, c.if-count-n.true, c.width-n.ensures),
       list_cut c.args.numbers.now c.args.row _ _ e c.place-at.ensures c.wide-count.ensures,
     )
 
 pub returns-then-form-eq-LIST : goal.returns-then-form-eq-LIST
-returns-then-form-eq-LIST c = 
+returns-then-form-eq-LIST c =
     let e = sym c.requires.1 ∙ c.if-form-eq-LIST.true in (
       omega (arith, c.width-n.ensures),
       list_whole c.args.numbers.now c.args.row _ _ _ e c.place-at.ensures c.wide-count.ensures c.width-n.ensures c.if-count-n.false,
@@ -36,6 +36,6 @@ returns-then-form-eq-LIST c =
 
 pub returns : goal.returns
 returns c = (
-      omega (arith, c.width-n.ensures),
-      no_list c.args.numbers.now c.args.row _ (λ e. c.if-form-eq-LIST.false (c.requires.1 ∙ e)) c.width-n.ensures,
-    )
+  omega (arith, c.width-n.ensures),
+  no_list c.args.numbers.now c.args.row _ (λ e. c.if-form-eq-LIST.false (c.requires.1 ∙ e)) c.width-n.ensures,
+)

@@ -20,17 +20,17 @@ numbers_of v row e l =
     rw w (sym (part_entries v (place_of row + 1) most_phases (omega (arith, place_room row is.inside, is.width))))
 
 pub offset_bounds-numbers-at : goal.offset_bounds-numbers-at
-offset_bounds-numbers-at c = 
+offset_bounds-numbers-at c =
     let is = list_row c.args.row c.requires in
     omega (arith, place_room c.args.row is.inside, c.place-at.ensures)
 
 pub bounds-numbers-at : goal.bounds-numbers-at
-bounds-numbers-at c = 
+bounds-numbers-at c =
     let is = list_row c.args.row c.requires in
     omega (arith, place_room c.args.row is.inside, is.width, c.place-at.ensures)
 
 pub returns : goal.returns
-returns c = 
+returns c =
     let v = c.args.numbers in
     let row = c.args.row in
     let l : length v ≡ number_count = search rules in

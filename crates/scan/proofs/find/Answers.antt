@@ -1,6 +1,6 @@
 -- `scan::find` meets its contract: at each turn the search from there finds what the whole search does. Assumes nothing.
 use mathlib.Core.Path.{◌≡◌, sym, ◌∙◌}
-use Prim.Native.Nat.{◌-◌, min}
+use Prim.Native.Nat.{min}
 use native.Mathlib.Omega.{arith}
 use lib.ListN.{length}
 use Rattle.scan.proofs.Along.{here, further, nowhere}

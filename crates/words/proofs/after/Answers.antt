@@ -1,6 +1,5 @@
 -- `words::after` meets its contract: at each turn the rest of the word decides as the whole word does. Assumes nothing.
 use native.Mathlib.Omega.{arith}
-use Prim.Native.Nat.{◌-◌}
 use mathlib.Core.Path.{refl, sym, ◌∙◌}
 use Rattle.figures.proofs.Cases.{after_end, after_out, after_ne, after_step}
 use Rattle.words.proofs.after.Goals as goal
