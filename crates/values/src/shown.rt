@@ -10,9 +10,10 @@ pub(crate) const TEXT: [u8; 300] =
 // What every lent byte is before.
 const BEFORE: u8 = b'.';
 
-fn print_answer(rt: &impl Print, name: &[u8], by: &str, answer: Answer) -> io::Result<()> {
+fn print_answer(rt: &impl Print, name: &[u8], by: &[u8], answer: Answer) -> io::Result<()> {
     rt.write_all(name)?;
-    print!(rt; "{by}{}", numbering::answer_number(answer))?;
+    rt.write_all(by)?;
+    print!(rt; "{}", numbering::answer_number(answer))?;
     print!(rt; ",{}", numbering::answer_line(answer))
 }
 
@@ -52,7 +53,7 @@ fn print_bytes(rt: &impl Print, out: &[u8; 300]) -> io::Result<()> {
 pub(crate) fn worked(rt: &impl Print, name: &[u8], sheet: Sheet) -> io::Result<()> {
     let worked = form::worksheet(sheet);
     let answer = worked.answer;
-    print_answer(rt, name, " worksheet ", answer)?;
+    print_answer(rt, name, b" worksheet ", answer)?;
     if all_zero(worked.lines) {
         println!(rt; ", zeros")
     } else {
@@ -67,7 +68,7 @@ pub(crate) fn written(rt: &impl Print, name: &[u8], sheet: Sheet, room: u32) -> 
     if lent <= 300 {
         let reply = writer::write(sheet, &mut out[0..lent]);
         let answer = reply.answer;
-        print_answer(rt, name, " writer ", answer)?;
+        print_answer(rt, name, b" writer ", answer)?;
         print!(rt; ", length {}", reply.length)?;
         print_bytes(rt, &out)?;
     }
