@@ -2,50 +2,49 @@
 // and of those that are taken the text in today's form.
 #![tactic(auto)]
 
-ghost use Rattle.std.specs.Prelude.{◌≤◌, ◌<◌, length};
+ghost use Rattle.std.specs.Prelude.{◌≤◌, ◌<◌, length, IfOk};
 
-use libc::{STDIN_FILENO, STDOUT_FILENO};
+use std::io;
 
-fn print_answer(text: &[u8]) {
+fn print_answer(rt: &impl Print, text: &[u8]) -> io::Result<()> {
     let mut out = [0u8; longest::BUFFER];
     let written = converter::convert(text, &mut out);
     let answer = written.answer;
-    io::print_decimal(STDOUT_FILENO, numbering::answer_number(answer) as u64);
-    io::write_all(STDOUT_FILENO, b",");
-    io::print_decimal(STDOUT_FILENO, numbering::answer_line(answer) as u64);
-    io::write_all(STDOUT_FILENO, b"\n");
-    io::write_all(STDOUT_FILENO, &out[..written.length]);
+    print!(rt; "{}", numbering::answer_number(answer))?;
+    println!(rt; ",{}", numbering::answer_line(answer))?;
+    rt.write_all(&out[..written.length])
 }
 
 // The text whose name starts at `at`, and the place past it.
-fn one(s: &[u8], at: usize) -> usize
+fn one(rt: &impl Print, s: &[u8], at: usize) -> io::Result<usize>
     requires { at < length s.now }
-    ensures { (at < result) × (result ≤ length s.now) }
+    ensures { IfOk result (λ next. (at < next) × (next ≤ length s.now)) }
 {
     let from = at + 1;
     let name = scan::find(s, from, b'\n');
-    io::write_all(STDOUT_FILENO, &s[from..name]);
-    io::write_all(STDOUT_FILENO, b": ");
+    rt.write_all(&s[from..name])?;
+    print!(rt; ": ")?;
     if name < s.len() {
         let start = name + 1;
         let end = scan::find(s, start, b'#');
-        print_answer(&s[start..end]);
-        end
+        print_answer(rt, &s[start..end])?;
+        Ok(end)
     } else {
-        print_answer(b"");
-        s.len()
+        print_answer(rt, b"")?;
+        Ok(s.len())
     }
 }
 
-fn all(s: &[u8]) {
+fn all(rt: &impl Print, s: &[u8]) -> io::Result<()> {
     let mut at: usize = 0;
     while at < s.len() {
-        at = one(s, at);
+        at = one(rt, s, at)?;
     }
+    Ok(())
 }
 
-fn main() {
-    let mut buffer = io::large_buffer();
-    let n = io::read_full(STDIN_FILENO, &mut buffer);
-    all(&buffer[..n]);
+fn main(rt: HostRuntime) -> io::Result<()> {
+    let mut buffer = [0u8; 65536];
+    let n = intake::read_full(&mut rt.reader(), &mut buffer);
+    all(&rt, &buffer[..n])
 }

@@ -1,8 +1,8 @@
 // Document 002's example: a WB-50 takes 12.2 seconds over 80 ft of level road. A sheet whose line 23 is 80 ft, with that point; printed: its line 24, level and at 4 percent uphill, in tenths.
 #![tactic(auto)]
 
-use libc::STDOUT_FILENO;
 use sheet::{Phase, Point, Sheet, Vehicle};
+use std::io;
 
 fn phases() -> [Phase; 8] {
     let mut phases = [zeros::zero_phase(); 8];
@@ -65,10 +65,7 @@ fn line_24(grade: i16) -> u64 {
     ruled::ticks(worked.lines.l24)
 }
 
-fn main() {
-    io::write_all(STDOUT_FILENO, b"level: ");
-    io::print_decimal(STDOUT_FILENO, line_24(0));
-    io::write_all(STDOUT_FILENO, b"\n4 percent: ");
-    io::print_decimal(STDOUT_FILENO, line_24(40));
-    io::write_all(STDOUT_FILENO, b"\n");
+fn main(rt: HostRuntime) -> io::Result<()> {
+    println!(rt; "level: {}", line_24(0))?;
+    println!(rt; "4 percent: {}", line_24(40))
 }

@@ -1,27 +1,27 @@
 // The far times as the code has them, to be held to the equation: a line for each distance, 425 to 1000 ft, with its fifteen times in tenths of a second.
 #![tactic(auto)]
 
-use libc::STDOUT_FILENO;
+use std::io;
 
-fn print_row(row: usize) {
+fn print_row(rt: &impl Print, row: usize) -> io::Result<()> {
     let mut col: usize = 0;
     while col < 15 {
-        io::write_all(STDOUT_FILENO, b" ");
-        io::print_decimal(STDOUT_FILENO, far_columns::entry(col, row).0);
+        print!(rt; " {}", far_columns::entry(col, row).0)?;
         col += 1;
     }
-    io::write_all(STDOUT_FILENO, b"\n");
+    println!(rt)
 }
 
-fn print_rows() {
+fn print_rows(rt: &impl Print) -> io::Result<()> {
     let mut row: usize = 0;
     while row < 24 {
-        io::print_decimal(STDOUT_FILENO, 425 + 25 * row as u64);
-        print_row(row);
+        print!(rt; "{}", 425 + 25 * row as u64)?;
+        print_row(rt, row)?;
         row += 1;
     }
+    Ok(())
 }
 
-fn main() {
-    print_rows();
+fn main(rt: HostRuntime) -> io::Result<()> {
+    print_rows(&rt)
 }

@@ -8,6 +8,7 @@ use super::shown;
 use sheet::Sheet;
 use stage::Command;
 use state::State;
+use std::io;
 use unit::{Reply, Unit};
 
 const PLACE: usize = 0;
@@ -82,15 +83,19 @@ fn ticked(n: &[u32; rows::NUMBERS], unit: Unit) -> Reply {
     unit.tick(command(n[COMMAND]), n[CALL] == 1)
 }
 
-pub(crate) fn case(site: &[u32; rows::NUMBERS], n: &[u32; rows::NUMBERS]) {
+pub(crate) fn case(
+    rt: &impl Print,
+    site: &[u32; rows::NUMBERS],
+    n: &[u32; rows::NUMBERS],
+) -> io::Result<()> {
     let offered = offered(site, n);
     if n[STAGE] == START {
-        shown::reply(site, b" start ", unit::start(offered));
+        shown::reply(rt, site, b" start ", unit::start(offered))?;
     } else {
         let unit = held(site, n);
-        shown::unit(site, unit);
-        shown::reply(site, b" | tick ", ticked(n, unit));
-        shown::reply(site, b" | load ", unit.load(offered));
+        shown::unit(rt, site, unit)?;
+        shown::reply(rt, site, b" | tick ", ticked(n, unit))?;
+        shown::reply(rt, site, b" | load ", unit.load(offered))?;
     }
-    shown::write(b"\n");
+    shown::write(rt, b"\n")
 }

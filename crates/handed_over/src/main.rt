@@ -2,7 +2,7 @@
 // the numbers of `cases`; on standard output the unit as it was handed over, and the reply and the whole unit after a tick, and after a load.
 #![tactic(auto)]
 
-use libc::STDIN_FILENO;
+use std::io;
 
 mod cases;
 mod shown;
@@ -10,13 +10,13 @@ mod shown;
 // A byte more of the number of that count: a comma begins the next one.
 fn taken(numbers: &mut [u32; rows::NUMBERS], count: usize, byte: u8) -> usize {
     if byte == b',' {
-        return std::num::wrapping_add_usize(count, 1);
+        return count.wrapping_add(1);
     }
     if count < rows::NUMBERS {
         let tens = numbers[count];
         if tens < 100000000 {
-            let digit = std::num::wrapping_sub_u32(byte as u32, 48);
-            numbers[count] = std::num::wrapping_add_u32(tens * 10, digit);
+            let digit = (byte as u32).wrapping_sub(48);
+            numbers[count] = (tens * 10).wrapping_add(digit);
         }
     }
     count
@@ -39,34 +39,36 @@ fn numbers(s: &[u8], from: usize) -> [u32; rows::NUMBERS] {
 
 // The place after the next byte of that kind.
 fn after(s: &[u8], at: usize, byte: u8) -> usize {
-    std::num::wrapping_add_usize(scan::find(s, at, byte), 1)
+    scan::find(s, at, byte).wrapping_add(1)
 }
 
 // The case at a place, its name first.
-fn line(site: &[u32; rows::NUMBERS], s: &[u8], at: usize) {
+fn line(rt: &impl Print, site: &[u32; rows::NUMBERS], s: &[u8], at: usize) -> io::Result<()> {
     let first = after(s, at, b':');
     if at <= first {
         if first <= s.len() {
-            shown::write(&s[at..first]);
-            cases::case(site, &numbers(s, first));
+            shown::write(rt, &s[at..first])?;
+            cases::case(rt, site, &numbers(s, first))?;
         }
     }
+    Ok(())
 }
 
 // No more lines than bytes; past the last one there is nothing to show.
-fn all(s: &[u8]) {
+fn all(rt: &impl Print, s: &[u8]) -> io::Result<()> {
     let site = numbers(s, 0);
     let mut at = after(s, 0, b'\n');
     let mut i: usize = 0;
     while i < s.len() {
-        line(&site, s, at);
+        line(rt, &site, s, at)?;
         at = after(s, at, b'\n');
         i += 1;
     }
+    Ok(())
 }
 
-fn main() {
-    let mut buffer = io::large_buffer();
-    let n = io::read_full(STDIN_FILENO, &mut buffer);
-    all(&buffer[..n]);
+fn main(rt: HostRuntime) -> io::Result<()> {
+    let mut buffer = [0u8; 65536];
+    let n = intake::read_full(&mut rt.reader(), &mut buffer);
+    all(&rt, &buffer[..n])
 }

@@ -1,65 +1,79 @@
 // A unit as numbers: the stage as `state` numbers it, the count; then each number of its sheet that is not the site's, with its place.
 use super::cases;
-use libc::STDOUT_FILENO;
 use stage::Stage;
+use std::io;
 use unit::{Reply, Unit};
 
-pub(crate) fn write(text: &[u8]) {
-    io::write_all(STDOUT_FILENO, text);
+pub(crate) fn write(rt: &impl Print, text: &[u8]) -> io::Result<()> {
+    rt.write_all(text)
 }
 
-fn number(text: &[u8], n: u64) {
-    io::write_all(STDOUT_FILENO, text);
-    io::print_decimal(STDOUT_FILENO, n);
+fn number(rt: &impl Print, text: &[u8], n: u64) -> io::Result<()> {
+    rt.write_all(text)?;
+    print!(rt; "{n}")
 }
 
-fn more(numbers: &[u64]) {
+fn more(rt: &impl Print, numbers: &[u64]) -> io::Result<()> {
     let mut i: usize = 0;
     while i < numbers.len() {
-        number(b",", numbers[i]);
+        number(rt, b",", numbers[i])?;
         i += 1;
     }
+    Ok(())
 }
 
-fn stage(stage: Stage) {
+fn stage(rt: &impl Print, stage: Stage) -> io::Result<()> {
     let n = to_state::numbers_of(stage);
-    number(b" ", n.kind as u64);
-    more(&[
-        n.place as u64,
-        n.follows as u64,
-        n.next as u64,
-        n.phase as u64,
-        n.light as u64,
-        n.spent,
-        n.walker as u64,
-        n.walked,
-    ]);
+    number(rt, b" ", n.kind as u64)?;
+    more(
+        rt,
+        &[
+            n.place as u64,
+            n.follows as u64,
+            n.next as u64,
+            n.phase as u64,
+            n.light as u64,
+            n.spent,
+            n.walker as u64,
+            n.walked,
+        ],
+    )
 }
 
-fn differences(numbers: &[u32; rows::NUMBERS], site: &[u32; rows::NUMBERS]) {
+fn differences(
+    rt: &impl Print,
+    numbers: &[u32; rows::NUMBERS],
+    site: &[u32; rows::NUMBERS],
+) -> io::Result<()> {
     let mut i: usize = 0;
     while i < rows::NUMBERS {
         let n = numbers[i];
         if n != site[i] {
-            number(b" [", i as u64);
-            number(b"]=", cases::wide(n));
+            number(rt, b" [", i as u64)?;
+            number(rt, b"]=", cases::wide(n))?;
         }
         i += 1;
     }
+    Ok(())
 }
 
-pub(crate) fn unit(site: &[u32; rows::NUMBERS], unit: Unit) {
+pub(crate) fn unit(rt: &impl Print, site: &[u32; rows::NUMBERS], unit: Unit) -> io::Result<()> {
     let s = unit.stage;
-    stage(s);
-    number(b" count ", unit.count);
+    stage(rt, s)?;
+    number(rt, b" count ", unit.count)?;
     let numbers = to_numbers::flat(unit.sheet);
-    differences(&numbers, site);
+    differences(rt, &numbers, site)
 }
 
-pub(crate) fn reply(site: &[u32; rows::NUMBERS], event: &[u8], reply: Reply) {
+pub(crate) fn reply(
+    rt: &impl Print,
+    site: &[u32; rows::NUMBERS],
+    event: &[u8],
+    reply: Reply,
+) -> io::Result<()> {
     let answer = reply.answer;
-    number(event, numbering::answer_number(answer) as u64);
-    number(b",", numbering::answer_line(answer) as u64);
+    number(rt, event, numbering::answer_number(answer) as u64)?;
+    number(rt, b",", numbering::answer_line(answer) as u64)?;
     let after = reply.unit;
-    unit(site, after);
+    unit(rt, site, after)
 }

@@ -1,10 +1,10 @@
 // The bench: a site sheet on standard input, a line `run`, then one event a line; on standard output what the unit shows.
 #![tactic(auto)]
 
-use libc::STDIN_FILENO;
 use running::Running;
 use sheet::Answer;
 use stage::Command;
+use std::io;
 use text::Reading;
 
 mod marks;
@@ -20,7 +20,13 @@ struct Run {
 }
 
 // A tick is printed where what is shown changed or the command was refused.
-fn print_tick(tick: u64, before: Running, after: Running, answer: Answer) {
+fn print_tick(
+    rt: &impl Print,
+    tick: u64,
+    before: Running,
+    after: Running,
+    answer: Answer,
+) -> io::Result<()> {
     let was = before.now;
     let is = after.now;
     let left = was.stage;
@@ -30,14 +36,21 @@ fn print_tick(tick: u64, before: Running, after: Running, answer: Answer) {
         shown::of(after.sheet, entered),
     ) {
         if answers::is_fine(answer) {
-            return;
+            return Ok(());
         }
     }
-    prints::state(tick, after, answer);
+    prints::state(rt, tick, after, answer)
 }
 
 // As many ticks as the order has, each with its command and its call.
-fn ticks(first: Running, from: u64, command: Command, call: bool, count: u32) -> Running {
+fn ticks(
+    rt: &impl Print,
+    first: Running,
+    from: u64,
+    command: Command,
+    call: bool,
+    count: u32,
+) -> io::Result<Running> {
     let mut unit = first;
     let mut tick = from;
     let mut i: u32 = 0;
@@ -45,12 +58,12 @@ fn ticks(first: Running, from: u64, command: Command, call: bool, count: u32) ->
         let reply = running_tick::tick(unit, command, call);
         let next = reply.running;
         let answer = reply.answer;
-        tick = std::num::wrapping_add_u64(tick, 1);
-        print_tick(tick, unit, next, answer);
+        tick = tick.wrapping_add(1);
+        print_tick(rt, tick, unit, next, answer)?;
         unit = next;
         i += 1;
     }
-    unit
+    Ok(unit)
 }
 
 // The sheet that the bytes from `start` up to `end` are.
@@ -64,62 +77,63 @@ fn read(s: &[u8], start: usize, end: usize) -> Reading {
 }
 
 // A text offered to the loader: a refusal of the reading is the reply. Its sheet is then all zeros, which the loader refuses too.
-fn load(unit: Running, tick: u64, reading: Reading) -> Running {
+fn load(rt: &impl Print, unit: Running, tick: u64, reading: Reading) -> io::Result<Running> {
     let reply = running_start::load(unit, reading.sheet);
     let after = reply.running;
     let read = reading.answer;
     let loaded = reply.answer;
-    prints::state(tick, after, answers::or_else(read, loaded));
-    after
+    prints::state(rt, tick, after, answers::or_else(read, loaded))?;
+    Ok(after)
 }
 
 // An event, and the place of the next one; a malformed one is the last. A load's text ends with a line `done`, and without one is malformed.
-fn event(s: &[u8], run: Run) -> Run {
+fn event(rt: &impl Print, s: &[u8], run: Run) -> io::Result<Run> {
     let unit = run.unit;
     let start = orders::past(s, run.at, b"load\n");
     if start <= s.len() {
         let done = marks::find_line(s, run.at, b"done\n");
         if done.next <= s.len() {
-            return Run {
-                unit: load(unit, run.tick, read(s, start, done.start)),
+            return Ok(Run {
+                unit: load(rt, unit, run.tick, read(s, start, done.start))?,
                 tick: run.tick,
                 at: done.next,
-                line: std::num::wrapping_add_usize(run.line, done.lines),
-            };
+                line: run.line.wrapping_add(done.lines),
+            });
         }
     }
     let order = orders::read(s, run.at);
     let command = order.command;
-    let line = std::num::wrapping_add_usize(run.line, 1);
+    let line = run.line.wrapping_add(1);
     let mut count = order.count;
     if s.len() < order.next {
-        prints::refusal(1, line as u64);
+        prints::refusal(rt, 1, line as u64)?;
         count = 0;
     }
-    Run {
-        unit: ticks(unit, run.tick, command, order.call, count),
-        tick: std::num::wrapping_add_u64(run.tick, count as u64),
+    Ok(Run {
+        unit: ticks(rt, unit, run.tick, command, order.call, count)?,
+        tick: run.tick.wrapping_add(count as u64),
         at: order.next,
         line: line,
-    }
+    })
 }
 
 // The events from a place on: no more of them than the text has bytes.
-fn events(s: &[u8], first: Run) {
+fn events(rt: &impl Print, s: &[u8], first: Run) -> io::Result<()> {
     let mut run = first;
     let mut left: usize = s.len();
     while 0 < left {
         if s.len() <= run.at {
-            return;
+            return Ok(());
         }
-        let next = event(s, run);
+        let next = event(rt, s, run)?;
         run = next;
         left -= 1;
     }
+    Ok(())
 }
 
 // The sheet's text up to a line `run`, then the events; without that line it is a sheet alone.
-fn bench(s: &[u8]) {
+fn bench(rt: &impl Print, s: &[u8]) -> io::Result<()> {
     let run = marks::find_line(s, 0, b"run\n");
     let reading = read(s, 0, run.start);
     let answer = reading.answer;
@@ -127,8 +141,9 @@ fn bench(s: &[u8]) {
         let started = running_start::start(reading.sheet);
         let unit = started.running;
         let fine = started.answer;
-        prints::state(0, unit, fine);
+        prints::state(rt, 0, unit, fine)?;
         events(
+            rt,
             s,
             Run {
                 unit: unit,
@@ -136,25 +151,26 @@ fn bench(s: &[u8]) {
                 at: run.next,
                 line: run.lines,
             },
-        );
+        )
     } else {
         prints::refusal(
+            rt,
             numbering::answer_number(answer) as u64,
             numbering::answer_line(answer) as u64,
-        );
+        )
     }
 }
 
 // A text has at most 65536 bytes: where that many came, one more is asked for.
-fn main() {
-    let mut buffer = io::large_buffer();
+fn main(rt: HostRuntime) -> io::Result<()> {
+    let mut buffer = [0u8; 65536];
     let mut beyond = [0u8; 1];
-    let n = io::read_full(STDIN_FILENO, &mut buffer);
+    let mut reader = rt.reader();
+    let n = intake::read_full(&mut reader, &mut buffer);
     if n == 65536 {
-        if io::read_full(STDIN_FILENO, &mut beyond) == 1 {
-            prints::refusal(1, 0);
-            return;
+        if intake::read_full(&mut reader, &mut beyond) == 1 {
+            return prints::refusal(&rt, 1, 0);
         }
     }
-    bench(&buffer[..n]);
+    bench(&rt, &buffer[..n])
 }

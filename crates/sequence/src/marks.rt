@@ -24,7 +24,7 @@ pub(crate) fn find_line(s: &[u8], from: usize, word: &[u8]) -> Marked {
                 lines: lines,
             };
         }
-        at = std::num::wrapping_add_usize(scan::find(s, at, b'\n'), 1);
+        at = scan::find(s, at, b'\n').wrapping_add(1);
     }
     Marked {
         start: s.len(),

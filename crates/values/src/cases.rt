@@ -5,6 +5,7 @@
 use super::shown;
 use rows::NUMBERS;
 use sheet::Sheet;
+use std::io;
 
 // The paper's sheet has 276 bytes.
 fn paper() -> Sheet {
@@ -30,14 +31,19 @@ fn changed(pairs: &[u32; 40], count: usize) -> Sheet {
     from_numbers::sheet_of(&numbers)
 }
 
-pub(crate) fn case(name: &[u8], numbers: &[u32; 40], count: usize) {
+pub(crate) fn case(
+    rt: &impl Print,
+    name: &[u8],
+    numbers: &[u32; 40],
+    count: usize,
+) -> io::Result<()> {
     let sheet = changed(numbers, count);
     match numbers[0] {
-        0 => shown::written(name, sheet, numbers[1]),
+        0 => shown::written(rt, name, sheet, numbers[1]),
         1 => {
-            shown::worked(name, sheet);
-            shown::written(name, sheet, numbers[1]);
+            shown::worked(rt, name, sheet)?;
+            shown::written(rt, name, sheet, numbers[1])
         }
-        _ => shown::text(sheet),
+        _ => shown::text(rt, sheet),
     }
 }

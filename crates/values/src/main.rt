@@ -2,7 +2,7 @@
 // standard input is a case, `NAME:` and the numbers of `cases`.
 #![tactic(auto)]
 
-use libc::STDIN_FILENO;
+use std::io;
 
 mod cases;
 mod shown;
@@ -10,59 +10,60 @@ mod shown;
 // A byte more of the number of that count: whatever is above a digit begins the next one.
 fn taken(numbers: &mut [u32; 40], count: usize, byte: u8) -> usize {
     if b'9' < byte {
-        return std::num::wrapping_add_usize(count, 1);
+        return count.wrapping_add(1);
     }
     if count < 40 {
         let tens = numbers[count];
         if tens < 429496730 {
-            let digit = std::num::wrapping_sub_u32(byte as u32, 48);
-            numbers[count] = std::num::wrapping_add_u32(tens * 10, digit);
+            let digit = (byte as u32).wrapping_sub(48);
+            numbers[count] = (tens * 10).wrapping_add(digit);
         }
     }
     count
 }
 
 // The numbers of a line, from the first of them on.
-fn case(name: &[u8], s: &[u8], from: usize) {
+fn case(rt: &impl Print, name: &[u8], s: &[u8], from: usize) -> io::Result<()> {
     let mut numbers = [0u32; 40];
     let mut count: usize = 0;
     let mut i = from;
     while i < s.len() {
         if s[i] == b'\n' {
-            cases::case(name, &numbers, count);
-            return;
+            return cases::case(rt, name, &numbers, count);
         }
         count = taken(&mut numbers, count, s[i]);
         i += 1;
     }
+    Ok(())
 }
 
 // The line at a place, its name first; the place of the next line.
-fn line(s: &[u8], at: usize) -> usize {
-    let numbers = std::num::wrapping_add_usize(scan::find(s, at, b':'), 1);
+fn line(rt: &impl Print, s: &[u8], at: usize) -> io::Result<usize> {
+    let numbers = scan::find(s, at, b':').wrapping_add(1);
     if at <= numbers {
         if numbers <= s.len() {
-            case(&s[at..numbers], s, numbers);
+            case(rt, &s[at..numbers], s, numbers)?;
         }
     }
-    std::num::wrapping_add_usize(scan::find(s, at, b'\n'), 1)
+    Ok(scan::find(s, at, b'\n').wrapping_add(1))
 }
 
 // No more lines than bytes.
-fn all(s: &[u8]) {
+fn all(rt: &impl Print, s: &[u8]) -> io::Result<()> {
     let mut at: usize = 0;
     let mut i: usize = 0;
     while i < s.len() {
         if s.len() <= at {
-            return;
+            return Ok(());
         }
-        at = line(s, at);
+        at = line(rt, s, at)?;
         i += 1;
     }
+    Ok(())
 }
 
-fn main() {
-    let mut buffer = io::large_buffer();
-    let n = io::read_full(STDIN_FILENO, &mut buffer);
-    all(&buffer[..n]);
+fn main(rt: HostRuntime) -> io::Result<()> {
+    let mut buffer = [0u8; 65536];
+    let n = intake::read_full(&mut rt.reader(), &mut buffer);
+    all(&rt, &buffer[..n])
 }

@@ -1,7 +1,7 @@
 // What is printed of a sheet: a line with the answer of the worksheet, and one with the writer's and what became of the lent bytes.
-use libc::STDOUT_FILENO;
 use lines::Lines;
 use sheet::{Answer, Sheet};
+use std::io;
 
 // The paper's sheet as its text in 300 lent bytes, and the bytes beyond it as they were.
 pub(crate) const TEXT: [u8; 300] =
@@ -10,12 +10,11 @@ pub(crate) const TEXT: [u8; 300] =
 // What every lent byte is before.
 const BEFORE: u8 = b'.';
 
-fn print_answer(name: &[u8], by: &[u8], answer: Answer) {
-    io::write_all(STDOUT_FILENO, name);
-    io::write_all(STDOUT_FILENO, by);
-    io::print_decimal(STDOUT_FILENO, numbering::answer_number(answer) as u64);
-    io::write_all(STDOUT_FILENO, b",");
-    io::print_decimal(STDOUT_FILENO, numbering::answer_line(answer) as u64);
+fn print_answer(rt: &impl Print, name: &[u8], by: &[u8], answer: Answer) -> io::Result<()> {
+    rt.write_all(name)?;
+    rt.write_all(by)?;
+    print!(rt; "{}", numbering::answer_number(answer))?;
+    print!(rt; ",{}", numbering::answer_line(answer))
 }
 
 fn all_zero(lines: Lines) -> bool {
@@ -41,48 +40,47 @@ fn same(out: &[u8; 300], expected: &[u8; 300]) -> bool {
     true
 }
 
-fn print_bytes(out: &[u8; 300]) {
+fn print_bytes(rt: &impl Print, out: &[u8; 300]) -> io::Result<()> {
     if same(out, &[BEFORE; 300]) {
-        io::write_all(STDOUT_FILENO, b", no byte changed\n");
-        return;
+        return println!(rt; ", no byte changed");
     }
     if same(out, &TEXT) {
-        io::write_all(STDOUT_FILENO, b", the text and no byte beyond\n");
-        return;
+        return println!(rt; ", the text and no byte beyond");
     }
-    io::write_all(STDOUT_FILENO, b", other bytes\n");
+    println!(rt; ", other bytes")
 }
 
-pub(crate) fn worked(name: &[u8], sheet: Sheet) {
+pub(crate) fn worked(rt: &impl Print, name: &[u8], sheet: Sheet) -> io::Result<()> {
     let worked = form::worksheet(sheet);
     let answer = worked.answer;
-    print_answer(name, b" worksheet ", answer);
+    print_answer(rt, name, b" worksheet ", answer)?;
     if all_zero(worked.lines) {
-        io::write_all(STDOUT_FILENO, b", zeros\n");
+        println!(rt; ", zeros")
     } else {
-        io::write_all(STDOUT_FILENO, b", lines\n");
+        println!(rt; ", lines")
     }
 }
 
 // The writer is lent the first `room` of 300 bytes.
-pub(crate) fn written(name: &[u8], sheet: Sheet, room: u32) {
+pub(crate) fn written(rt: &impl Print, name: &[u8], sheet: Sheet, room: u32) -> io::Result<()> {
     let mut out = [BEFORE; 300];
     let lent = room as usize;
     if lent <= 300 {
         let reply = writer::write(sheet, &mut out[0..lent]);
         let answer = reply.answer;
-        print_answer(name, b" writer ", answer);
-        io::write_all(STDOUT_FILENO, b", length ");
-        io::print_decimal(STDOUT_FILENO, reply.length as u64);
-        print_bytes(&out);
+        print_answer(rt, name, b" writer ", answer)?;
+        print!(rt; ", length {}", reply.length)?;
+        print_bytes(rt, &out)?;
     }
+    Ok(())
 }
 
 // The text itself.
-pub(crate) fn text(sheet: Sheet) {
+pub(crate) fn text(rt: &impl Print, sheet: Sheet) -> io::Result<()> {
     let mut out = [BEFORE; 300];
     let length = writer::write(sheet, &mut out).length;
     if length <= 300 {
-        io::write_all(STDOUT_FILENO, &out[0..length]);
+        rt.write_all(&out[0..length])?;
     }
+    Ok(())
 }
