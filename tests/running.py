@@ -15,7 +15,7 @@ def words(name, count):
     """how many inputs, the random numbers they are made from, and the program"""
     given = sys.argv[1:]
     return (int(given[0]) if given else count, random.Random(int(given[1]) if len(given) > 1 else 628),
-            given[2:] or [os.path.join(here, '..', 'target', 'bin', name)])
+            given[2:] or [os.path.join(here, '..', 'crates', name, 'out', name)])
 
 
 def outputs(program, texts):

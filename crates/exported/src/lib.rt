@@ -1,4 +1,4 @@
-// What a program in C or Rust can link (`rt staticlib exported`): texts to lines, and texts written again.
+// What a program in C or Rust can link (`rt lib` in this folder): texts to lines, and texts written again.
 #![tactic(auto)]
 
 ghost use Rattle.std.specs.Prelude.{◌≡◌, length};

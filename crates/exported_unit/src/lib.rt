@@ -1,4 +1,4 @@
-// What a program in C or Rust can link (`rt staticlib exported_unit`): a unit that the caller keeps as plain numbers: its sheet as the numbers of the text
+// What a program in C or Rust can link (`rt lib` in this folder): a unit that the caller keeps as plain numbers: its sheet as the numbers of the text
 // in their order (`numbers`), its stage as `state` numbers it, without the times, and the times: those spent in the light and by the walker, and the count.
 #![tactic(auto)]
 
