@@ -3,7 +3,7 @@ use mathlib.Core.Path.{◌≡◌, ◌∙◌}
 use native.Mathlib.Omega.{arith}
 use Rattle.faults.proofs.Sound.{sound}
 use Rattle.lines.specs.Sums.{◌plus◌}
-use Rattle.lines.specs.Lines.{l01, l02, l03, l22, l23, l25, l44, l51}
+use Rattle.lines.specs.Lines.{l01, l02, l03}
 use Rattle.lines.specs.Sections.{clearance_lines, gates_lines, green_lines}
 use Rattle.lines.proofs.Bounds.{small_time}
 use native.Mathlib.Omega.{arith}
