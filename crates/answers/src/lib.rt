@@ -1,37 +1,18 @@
-// Whether an answer is fine, and the first refusal of two.
+// A test that refuses where it fails: a chain of them is left by `?` at the first.
 #![tactic(auto)]
 
 ghost use Rattle.std.specs.Prelude.{◌≡◌};
-ghost use Rattle.sheet.specs.Refusals.{is_fine, or_else, unless};
+ghost use Rattle.sheet.specs.Refusals.{unless};
 
-use sheet::{Answer, Refusal};
-
-pub fn is_fine(answer: Answer) -> bool
-    ensures { result ≡ is_fine answer }
-{
-    match answer {
-        Answer::Fine => true,
-        Answer::Refused(_, _) => false,
-    }
-}
+use sheet::{Answer, Refusal, Refused};
 
 // Refused on that line unless the test holds.
 pub fn refuse_unless(holds: bool, refusal: Refusal, line: u32) -> Answer
     ensures { result ≡ unless holds refusal line }
 {
     if holds {
-        Answer::Fine
+        Ok(())
     } else {
-        Answer::Refused(refusal, line)
-    }
-}
-
-// The first of two answers that is a refusal.
-pub fn or_else(first: Answer, second: Answer) -> Answer
-    ensures { result ≡ or_else first second }
-{
-    match first {
-        Answer::Fine => second,
-        Answer::Refused(_, _) => first,
+        Err(Refused { refusal, line })
     }
 }

@@ -4,7 +4,8 @@
 ghost use Rattle.std.specs.Prelude.{◌≡◌};
 ghost use Rattle.sheet.specs.Refusals.{number_of, answer_number, answer_line, code_of};
 
-use sheet::{Answer, Refusal};
+use sheet::{Answer, Refusal, Refused};
+use std::fmt;
 
 // The paper's number of a refusal.
 pub fn number(refusal: Refusal) -> u32
@@ -35,8 +36,8 @@ pub fn answer_number(answer: Answer) -> u32
     ensures { result ≡ answer_number answer }
 {
     match answer {
-        Answer::Fine => 0,
-        Answer::Refused(refusal, _) => number(refusal),
+        Ok(()) => 0,
+        Err(Refused { refusal, .. }) => number(refusal),
     }
 }
 
@@ -44,8 +45,8 @@ pub fn answer_line(answer: Answer) -> u32
     ensures { result ≡ answer_line answer }
 {
     match answer {
-        Answer::Fine => 0,
-        Answer::Refused(_, line) => line,
+        Ok(()) => 0,
+        Err(Refused { line, .. }) => line,
     }
 }
 
@@ -53,7 +54,24 @@ pub fn answer_line(answer: Answer) -> u32
 pub fn code(answer: Answer) -> u64
     ensures { result ≡ code_of answer }
 {
-    let number = answer_number(answer) as u64;
-    let line = answer_line(answer) as u64;
+    let number = u64::from(answer_number(answer));
+    let line = u64::from(answer_line(answer));
     4294967296 * number + line
+}
+
+// An answer as the programs print it.
+#[derive(Clone, Copy)]
+pub struct Numbered(pub Answer);
+
+impl fmt::Display for Numbered {
+    ghost use Rattle.std.specs.Prelude.{Some};
+    ghost use Rattle.numbering.specs.Printed.{numbered_text};
+
+    ghost output = { λ x. Some (numbered_text x.0) };
+
+    fn fmt<W: fmt::Write>(&self, f: &mut fmt::Formatter<W>) -> fmt::Result {
+        let number = answer_number(self.0);
+        let line = answer_line(self.0);
+        write!(f, "{number},{line}")
+    }
 }

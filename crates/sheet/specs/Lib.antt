@@ -1,3 +1,4 @@
 pub mod Refusals
 pub mod Zero
 pub mod Entries
+pub mod Shown

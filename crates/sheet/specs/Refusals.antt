@@ -1,9 +1,8 @@
 -- "Refusal numbers": the paper's number of each refusal, and what an answer says.
-use Rattle.std.specs.Prelude.{ℕ, ◌+◌, ◌*◌, Bool, true, false}
+use Rattle.std.specs.Prelude.{ℕ, ◌+◌, ◌*◌, Bool, true, false, Result, Ok, Err}
 use Rattle.sheet.specs.declared.Refusal.{Refusal}
 use Rattle.sheet.specs.declared.Refusal.TheVariants.{Malformed, OutOfRange, PhasesDontRise, PointsDontRise, PedestriansInModeZero, ClearanceTooShort, RelocationBeyondStorage, WarningTooShort, RelocationTooFar, TrackLongerThanTransfer, NoRoom, DwellPhaseNotListed, UnitUnfit, LoadNotNow, IssueNotNewer, CommandNotAllowed}
-use Rattle.sheet.specs.declared.Answer.{Answer}
-use Rattle.sheet.specs.declared.Answer.TheVariants.{Fine, Refused}
+use Rattle.sheet.specs.declared.Refused.{Refused}
 
 abbrev pub number_of : Refusal → ℕ
 -- "a line is missing, extra, misspelt, out of place or malformed, or a number has over 6 digits"
@@ -39,17 +38,24 @@ number_of IssueNotNewer = 22
 -- "command not allowed now"
 number_of CommandNotAllowed = 23
 
+-- fine, or refused
+abbrev pub Answer : Type 0
+Answer = Result (Unit {0}) Refused
+
+abbrev pub refused : Refusal → ℕ → Answer
+refused r l = Err (record { refusal = r; line = l })
+
 abbrev pub is_fine : Answer → Bool
-is_fine Fine = true
-is_fine (Refused r l) = false
+is_fine (Ok _) = true
+is_fine (Err e) = false
 
 abbrev pub answer_number : Answer → ℕ
-answer_number Fine = 0
-answer_number (Refused r l) = number_of r
+answer_number (Ok _) = 0
+answer_number (Err e) = number_of e.refusal
 
 abbrev pub answer_line : Answer → ℕ
-answer_line Fine = 0
-answer_line (Refused r l) = l
+answer_line (Ok _) = 0
+answer_line (Err e) = e.line
 
 -- both as one number, for other languages: 2^32 times the number, and the line; 0 where it is fine
 abbrev pub code_of : Answer → ℕ
@@ -57,10 +63,10 @@ code_of a = 4294967296 * answer_number a + answer_line a
 
 -- "The first faulty line in file order decides": the first of two answers that is a refusal
 unfoldable pub or_else : Answer → Answer → Answer
-or_else Fine b = b
-or_else (Refused r l) b = Refused r l
+or_else (Ok _) b = b
+or_else (Err e) b = Err e
 
 -- refused unless the test holds
 unfoldable pub unless : Bool → Refusal → ℕ → Answer
-unless true r l = Fine
-unless false r l = Refused r l
+unless true r l = Ok tt
+unless false r l = refused r l

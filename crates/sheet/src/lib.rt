@@ -2,6 +2,9 @@
 // `zeros`.
 #![tactic(auto)]
 
+ghost use Rattle.std.specs.Prelude.{◌≡◌, take};
+ghost use Rattle.sheet.specs.Entries.{listed_phases, listed_points, dwell_numbers};
+
 #[derive(Clone, Copy)]
 pub enum Vehicle {
     Car,
@@ -28,7 +31,8 @@ pub struct Point {
     pub tenths: u32,
 }
 
-// The lines of the text in their order. Entries of an array past its count are no part of the sheet.
+// The lines of the text in their order. Entries of an array past its count are no part of the sheet. Arrays with their counts, and no lists: memory is fixed, and
+// a sheet handed over as values may count past its arrays, which is refused by number at the count's own line.
 #[derive(Clone, Copy)]
 pub struct Sheet {
     pub issue: u32,
@@ -60,6 +64,34 @@ pub struct Sheet {
     pub points: [Point; 16],
 }
 
+// The first `count` entries, which is all of them where it counts more.
+pub fn counted<T>(entries: &[T], count: u32) -> &[T]
+    ensures { result.now ≡ take count entries.now }
+{
+    let n = usize::min(count as usize, entries.len());
+    &entries[..n]
+}
+
+impl Sheet {
+    pub fn listed_phases(&self) -> &[Phase]
+        ensures { result.now ≡ listed_phases self.now }
+    {
+        counted(&self.phases, self.phase_count)
+    }
+
+    pub fn listed_points(&self) -> &[Point]
+        ensures { result.now ≡ listed_points self.now }
+    {
+        counted(&self.points, self.point_count)
+    }
+
+    pub fn dwell_numbers(&self) -> &[u32]
+        ensures { result.now ≡ dwell_numbers self.now }
+    {
+        counted(&self.dwell, self.dwell_count)
+    }
+}
+
 // A case for each number of the paper's table, in its order: 1 to 11, 12, then 20 to 23.
 #[derive(Clone, Copy)]
 pub enum Refusal {
@@ -81,9 +113,12 @@ pub enum Refusal {
     CommandNotAllowed,
 }
 
-// Fine, or a refusal with its line of the text; 0 where it has none.
+// A refusal with its line of the text; 0 where it has none.
 #[derive(Clone, Copy)]
-pub enum Answer {
-    Fine,
-    Refused(Refusal, u32),
+pub struct Refused {
+    pub refusal: Refusal,
+    pub line: u32,
 }
+
+// Fine, or refused.
+pub type Answer = Result<(), Refused>;
