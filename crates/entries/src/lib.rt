@@ -8,44 +8,22 @@ ghost use Rattle.numbers.specs.Flat.{phase_place, point_place, phase_at, point_a
 use rows::table::MOST_PHASES;
 use rows::{NUMBERS, table};
 use sheet::{Phase, Point};
+use std::array;
 
-// A number of the sheet by its place, 0 past the last; there by value, since what is lent does not tell its length.
-fn past(numbers: [u32; NUMBERS], at: usize) -> u32
-    requires { number_count ≤ at }
-    ensures { result ≡ get_or numbers at 0 }
-{
-    0
-}
-
+// A number of the sheet by its place, 0 past the last.
 fn number(numbers: &[u32; NUMBERS], at: usize) -> u32
     ensures { result ≡ get_or numbers.now at 0 }
 {
-    if at < NUMBERS {
-        return numbers[at];
-    }
-    past(*numbers, at)
+    numbers.get(at).copied().unwrap_or(0)
 }
 
-fn no_phase(numbers: [u32; NUMBERS], i: usize) -> Phase
-    requires { number_count ≤ phase_place i }
-    ensures { result ≡ phase_at numbers i }
-{
-    zeros::zero_phase()
-}
-
-fn no_point(numbers: [u32; NUMBERS], i: usize) -> Point
-    requires { number_count ≤ point_place i }
-    ensures { result ≡ point_at numbers i }
-{
-    zeros::zero_point()
-}
-
-// The phase and the point of that place in their arrays; past the end, the zero ones.
+// The phase and the point of that place in their arrays; past the end, the zero ones. Each names its own fields, so that one function for both would say no
+// less.
 pub fn phase_at(numbers: &[u32; NUMBERS], i: usize) -> Phase
     ensures { result ≡ phase_at numbers.now i }
 {
     if NUMBERS <= i {
-        return no_phase(*numbers, i);
+        return zeros::zero_phase();
     }
     let at = table::PHASE + 8 * i;
     Phase {
@@ -64,7 +42,7 @@ pub fn point_at(numbers: &[u32; NUMBERS], i: usize) -> Point
     ensures { result ≡ point_at numbers.now i }
 {
     if NUMBERS <= i {
-        return no_point(*numbers, i);
+        return zeros::zero_point();
     }
     let at = table::POINT + 2 * i;
     Point {
@@ -78,11 +56,5 @@ pub fn list_at(numbers: &[u32; NUMBERS], row: usize) -> [u32; MOST_PHASES]
     ensures { result ≡ list_numbers numbers.now (place_of row) }
 {
     let at = places::place(row) + 1;
-    let mut list = [0u32; MOST_PHASES];
-    let mut i: usize = 0;
-    while i < MOST_PHASES {
-        list[i] = number(numbers, at + i);
-        i += 1;
-    }
-    list
+    array::from_fn(|i| number(numbers, at.saturating_add(i)))
 }

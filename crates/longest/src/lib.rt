@@ -9,7 +9,7 @@ pub const LONGEST: usize = 1146;
 
 pub const BUFFER: usize = LONGEST + 1;
 
-// How many bytes of a text decide what it is read as.
+// How many bytes of a text decide what it is read as. A constant has no contract: here it is proved to be the length that the definitions give.
 pub fn buffer() -> usize
     ensures { result ≡ longest + 1 }
 {

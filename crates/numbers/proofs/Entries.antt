@@ -21,23 +21,6 @@ module _ {A : Type 0} (f : ℕ → A) where
   entries_at (suc n) i zero d h = let e : i + 0 ≡ i = omega arith in rw e refl
   entries_at (suc n) i (suc j) d h = let e : i + suc j ≡ i + 1 + j = omega arith in rw e (entries_at n (i + 1) j d (omega arith))
 
-  -- the first i entries stored, the others to come; the next one stored; and all
-  pub next_stored : (n i : ℕ) (xs : List A) → length xs ≡ n → i < n
-      → take (i + 1) (set xs i (f i)) ++ entries_from f (n - (i + 1)) (i + 1) ≡ take i xs ++ entries_from f (n - i) i
-  unfolding entries_from
-  next_stored n i xs l h =
-      let e : n - i ≡ suc (n - (i + 1)) = omega arith in
-      let m : i < length xs = omega arith in
-      rw (e, add-one, take-suc-set xs i (f i) m) (append_assoc (take i xs) (f i ∷ []) (entries_from f (n - suc i) (suc i)))
-
-pub nothing_left : {A : Type 0} (f : ℕ → A) (n i : ℕ) (xs ys : List A) → length xs ≡ n → n ≤ i → take i xs ++ entries_from f (n - i) i ≡ ys → xs ≡ ys
-unfolding entries_from
-nothing_left f n i xs ys l h p =
-    let e : n - i ≡ 0 = omega arith in
-    let m : length xs ≤ i = omega arith in
-    let q : take i xs ++ [] ≡ ys = rw e at p in
-    sym (append-nil xs) ∙ ap (λ (z : List _). z ++ []) (sym (take_all i xs m)) ∙ q
-
 -- a list is its entries
 pub entries_all : {A : Type 0} (xs : List A) (n : ℕ) (d : A) → length xs ≡ n → entries_from (λ (i : ℕ). get_or xs i d) n 0 ≡ xs
 entries_all xs n d l =

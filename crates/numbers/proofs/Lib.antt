@@ -1,5 +1,5 @@
-pub mod Grades
 pub mod Numbers
 pub mod Entries
 pub mod Stored
 pub mod Again
+pub mod Made

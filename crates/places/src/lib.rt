@@ -6,7 +6,9 @@ ghost use Rattle.rows.specs.Table.{kind_of, width_of, place_of, present};
 
 use rows::{FIRST_PHASE, FIRST_POINT, NUMBERS, PHASE_KIND, POINT_KIND, ROWS, table};
 
-// The kind of a row; past the last row, none.
+// The kind of a row; past the last row, none. A kind is a place in the printed table, whose order `kind_of` counts, and no code of ours: as an enum it would be
+// the same 25 names in that order, told from their places.
+#[tactic(auto, using(rows::proofs::Tables::kind_ruled, rows::proofs::Tables::kind_past), unfolding(rows::proofs::Tables::kind_rule, units::specs::Numbers::pick))]
 pub fn kind(row: usize) -> usize
     ensures { result ≡ kind_of row }
 {
@@ -26,6 +28,7 @@ pub fn kind(row: usize) -> usize
 }
 
 // Where a row's numbers stand. The track's come right after those of the phases.
+#[tactic(auto, using(rows::proofs::Tables::place_ruled, rows::proofs::Tables::place_past), unfolding(rows::proofs::Tables::place_rule, units::specs::Numbers::pick))]
 pub fn place(row: usize) -> usize
     ensures { result ≡ place_of row }
 {
@@ -48,6 +51,7 @@ pub fn place(row: usize) -> usize
 }
 
 // How many numbers a row has.
+#[tactic(auto, using(rows::proofs::Tables::width_ruled, rows::proofs::Tables::width_past), unfolding(rows::proofs::Tables::width_rule, units::specs::Numbers::pick))]
 pub fn width(row: usize) -> usize
     ensures { result ≡ width_of row }
 {
@@ -72,13 +76,8 @@ pub fn width(row: usize) -> usize
     0 // no row
 }
 
-fn wide(x: u32) -> usize
-    ensures { (result ≡ x) × (result < 4294967296) }
-{
-    x as usize
-}
-
 // The sheet's text has this row: all but the phases and points past the counts.
+#[tactic(auto, unfolding(rows::specs::Table::present, units::specs::Numbers::pick))]
 pub fn present(numbers: &[u32; NUMBERS], row: usize) -> bool
     ensures { result ≡ present numbers.now row }
 {
@@ -86,10 +85,10 @@ pub fn present(numbers: &[u32; NUMBERS], row: usize) -> bool
         return true;
     }
     if row < table::TRACK_ROW {
-        return row - FIRST_PHASE < wide(numbers[table::PHASES]);
+        return row - FIRST_PHASE < numbers[table::PHASES] as usize;
     }
     if row < FIRST_POINT {
         return true;
     }
-    row < FIRST_POINT + wide(numbers[table::POINTS])
+    row - FIRST_POINT < numbers[table::POINTS] as usize
 }

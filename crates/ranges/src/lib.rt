@@ -1,13 +1,14 @@
 // Whether the numbers of a row are in their ranges.
 #![tactic(auto)]
 
-ghost use Rattle.std.specs.Prelude.{◌≡◌, ◌<◌, ◌≤◌, take};
+ghost use Rattle.std.specs.Prelude.{◌≡◌, ◌<◌, ◌≤◌, take, get_or};
 ghost use Rattle.rows.specs.Facts.{facts_of};
 ghost use Rattle.rows.specs.Table.{row_count, form_of, ranges_of, range_of, width_of, place_of, used_ranges, in_range, in_ranges};
 
-use rows::Key;
+use rows::{Form, Key};
 
 // The least of number j of a row, where `first` is that of the first number.
+#[tactic(auto, using(rows::proofs::Tables::least_ruled), unfolding(rows::proofs::Tables::least_rule, units::specs::Numbers::pick))]
 fn least(row: usize, j: usize, first: u32) -> u32
     requires { (row < row_count) × (j < width_of row) × (first ≡ (range_of row 0).least) }
     ensures { result ≡ (range_of row j).least }
@@ -28,6 +29,7 @@ fn least(row: usize, j: usize, first: u32) -> u32
 }
 
 // The most of it.
+#[tactic(auto, using(rows::proofs::Tables::most_ruled), unfolding(rows::proofs::Tables::most_rule, rows::proofs::Tables::phase_most, units::specs::Numbers::pick))]
 fn most(row: usize, j: usize, first: u32) -> u32
     requires { (row < row_count) × (j < width_of row) × (first ≡ (range_of row 0).most) }
     ensures { result ≡ (range_of row j).most }
@@ -57,49 +59,36 @@ fn most(row: usize, j: usize, first: u32) -> u32
 }
 
 // x is in the range of number j of a row, which has that key.
+#[tactic(auto, unfolding(rows::specs::Table::in_range, rows::specs::Facts::facts_of, units::specs::Numbers::pick))]
 fn in_range(row: usize, j: usize, key: Key, x: u32) -> bool
     requires { (row < row_count) × (j < width_of row) × (key ≡ facts_of row) }
     ensures { result ≡ in_range (range_of row j) x }
 {
-    if least(row, j, key.3) <= x {
-        x <= most(row, j, key.4)
-    } else {
-        false
-    }
+    least(row, j, key.least) <= x && x <= most(row, j, key.most)
 }
 
 // x is in the range of number j of a row; where the row has no such number, only 0 is.
+#[tactic(auto, using(crate::proofs::Ranges::no_number))]
 pub fn fits(row: usize, j: usize, x: u32) -> bool
     ensures { result ≡ in_range (range_of row j) x }
 {
     if j < places::width(row) {
-        let key = rows::facts(row);
-        return in_range(row, j, key, x);
+        return in_range(row, j, rows::facts(row), x);
     }
-    x <= 0
-}
-
-fn wide(x: u32) -> usize
-    ensures { result ≡ x }
-{
-    x as usize
+    x == 0
 }
 
 // How many numbers of a row a sheet has, by the row's form: of a list its count and as many as it counts, else all.
-fn used(numbers: &[u32; rows::NUMBERS], row: usize, form: usize) -> usize
+#[tactic(auto, using(crate::proofs::Ranges::list_used, crate::proofs::Ranges::no_list, rows::proofs::Tables::place_room, rows::proofs::Tables::width_some))]
+fn used(numbers: &[u32; rows::NUMBERS], row: usize, form: Form) -> usize
     requires { (row < row_count) × (form ≡ form_of row) }
     ensures { (result ≤ width_of row) × (take result (ranges_of row) ≡ used_ranges numbers.now row) }
 {
     let n = places::width(row);
-    if form == rows::LIST {
-        let at = places::place(row);
-        let count = wide(numbers[at]);
-        if count < n {
-            return 1 + count;
-        }
-        return n;
+    match form {
+        Form::Listed => n.min(1 + numbers[places::place(row)] as usize),
+        _ => n,
     }
-    n
 }
 
 // Each number of a row is in its range. The key is looked up once.
@@ -111,12 +100,29 @@ pub fn in_ranges(numbers: &[u32; rows::NUMBERS], row: usize) -> bool
     }
     let key = rows::facts(row);
     let at = places::place(row);
-    let n = used(numbers, row, key.2);
-    let mut j: usize = 0;
-    while j < n {
-        if in_range(row, j, key, numbers[at + j]) {
-            j += 1;
-        } else {
+    let n = used(numbers, row, key.form);
+    for j in 0..n {
+        if !in_range(row, j, key, numbers[at + j]) {
+            return false;
+        }
+    }
+    true
+}
+
+// Number j of those handed over; 0 past the last.
+fn number(numbers: &[u32], j: usize) -> u32
+    ensures { result ≡ get_or numbers.now j 0 }
+{
+    numbers.get(j).copied().unwrap_or(0)
+}
+
+// Each of a row's numbers is in its range, where they are handed over one after the other; one that is not there is 0.
+pub fn row_fits(row: usize, numbers: &[u32]) -> bool
+    ensures { result ≡ in_ranges numbers.now 0 (ranges_of row) }
+{
+    let count = places::width(row);
+    for j in 0..count {
+        if !fits(row, j, number(numbers, j)) {
             return false;
         }
     }

@@ -25,12 +25,12 @@ head_rule row =
     (pick (ltb row (past_phases + 1)) (place_for "track")
     (pick (ltb row (past_phases + 2)) (place_for "dwell") (pick (ltb row first_point) (row + shift) (place_for "point")))))
 
-pub head_ruled : {x : ℕ} (row : ℕ) → row < row_count → x ≡ head_rule row → x ≡ head_of row
+pub head_ruled : (row : ℕ) → row < row_count → head_of row ≡ head_rule row
 unfolding head_rule kind_of pick
-head_ruled row h e = ruled head_rule head_of tt row h e
+head_ruled row h = sym (ruled head_rule head_of tt row h refl)
 
-pub head_past : (row : ℕ) → row_count ≤ row → number_count ≡ head_of row
-head_past row h = ap (λ (k : ℕ). numbers_in (take k kinds)) (sym (kind_past row h))
+pub head_past : (row : ℕ) → row_count ≤ row → head_of row ≡ number_count
+head_past row h = ap (λ (k : ℕ). numbers_in (take k kinds)) (kind_past row h)
 
 abbrev pub heads_from : ℕ → List Kind → List ℕ
 heads_from at [] = []
@@ -76,12 +76,12 @@ head_tells row =
 abbrev pub kind_facts : Kind → Key
 kind_facts k =
     record {
-      0 = letters k.key;
-      1 = length k.key;
-      2 = k.form;
-      3 = (get_or k.ranges 0 (0 to 0)).least;
-      4 = (get_or k.ranges 0 (0 to 0)).most;
-      5 = k.absent;
+      letters = letters k.key;
+      length = length k.key;
+      form = k.form;
+      least = (get_or k.ranges 0 (0 to 0)).least;
+      most = (get_or k.ranges 0 (0 to 0)).most;
+      absent = k.absent;
     }
 
 pub facts_at : (row at n : ℕ) {x : Key} → at ≡ head_of row → at ≡ n → x ≡ kind_facts (get_or kinds (index_in n heads) none) → x ≡ facts_of row
@@ -120,22 +120,22 @@ letters_long row =
 -- ---- what a caller takes from the row of a key
 
 module _ (row : ℕ) (k : Key) (e : k ≡ facts_of row) where
-  pub facts_key : take k.1 k.0 ≡ key_of row
+  pub facts_key : take k.length k.letters ≡ key_of row
   unfolding facts_of
-  facts_key = ap (λ (x : Key). take x.1 x.0) e ∙ key_part row
+  facts_key = ap (λ (x : Key). take x.length x.letters) e ∙ key_part row
 
-  pub facts_letters : length k.0 ≡ 8
+  pub facts_letters : length k.letters ≡ 8
   unfolding facts_of
-  facts_letters = ap (λ (x : Key). length x.0) e ∙ letters_long row
+  facts_letters = ap (λ (x : Key). length x.letters) e ∙ letters_long row
 
-  pub facts_short : k.1 ≤ 8
+  pub facts_short : k.length ≤ 8
   unfolding facts_of
-  facts_short = let l : k.1 ≡ length (key_of row) = ap (λ (x : Key). x.1) e in omega (arith, key_short row)
+  facts_short = let l : k.length ≡ length (key_of row) = ap (λ (x : Key). x.length) e in omega (arith, key_short row)
 
-  pub facts_form : k.2 ≡ form_of row
+  pub facts_form : k.form ≡ form_of row
   unfolding facts_of
-  facts_form = ap (λ (x : Key). x.2) e
+  facts_form = ap (λ (x : Key). x.form) e
 
-  pub facts_absent : k.5 ≡ absent_of row
+  pub facts_absent : k.absent ≡ absent_of row
   unfolding facts_of
-  facts_absent = ap (λ (x : Key). x.5) e
+  facts_absent = ap (λ (x : Key). x.absent) e

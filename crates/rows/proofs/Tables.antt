@@ -1,16 +1,18 @@
 -- The code's rules by the number of a row are the printed table: one computed test for each. Assumes nothing.
 use mathlib.Core.Path.{◌≡◌, refl, sym, ap, subst, ◌∙◌}
-use mathlib.Core.Bool.{Bool}
+use mathlib.Core.Bool.{Bool, true, false}
 use mathlib.Core.List.{List, []}
 use Prim.Native.Nat.{ℕ, zero, suc, ◌+◌, ◌-◌, ◌*◌, ◌<◌, ◌≤◌}
 use native.Mathlib.Omega.{arith}
 use lib.Dec.{T, eqb, leb, ltb, eqb→eq, leb→le, ltb→lt, lt→ltb}
 use lib.ListN.{get_or, length, get_or-eq_default}
 use Rattle.units.specs.Numbers.{pick}
-use borrow.Author.Tests.{eq-eqb, ltb-true, ltb-false}
+use borrow.Author.Tests.{ltb-true, ltb-false}
 use Rattle.units.proofs.Steps.{split}
 use Rattle.units.proofs.Tested.{given, given_then, all_below, at}
-use Rattle.rows.specs.Table.{Range, ◌to◌, plain, list, kinds, rows, none, most_phases, kind_count, row_count, number_count, row_for, place_for, phase_kind, point_kind, first_phase, first_point, kind_of, form_of, ranges_of, range_of, width_of, place_of}
+use Rattle.rows.specs.declared.table.Form.{Form}
+use Rattle.rows.specs.declared.table.Form.TheVariants.{Plain, Worded, Signed, Listed}
+use Rattle.rows.specs.Table.{Range, ◌to◌, plain, list, kinds, rows, none, is_plain, is_list, most_phases, kind_count, row_count, number_count, row_for, place_for, phase_kind, point_kind, first_phase, first_point, kind_of, form_of, ranges_of, range_of, width_of, place_of}
 
 -- ---- the code's rules, in the order of its tests
 
@@ -52,9 +54,9 @@ most_rule row j = pick (eqb j 0) (range_of row 0).most (pick (ltb row past_phase
 pub ruled : (f g : ℕ → ℕ) → T (all_below (λ (r : ℕ). eqb (f r) (g r)) row_count) → {x : ℕ} (row : ℕ) → row < row_count → x ≡ f row → x ≡ g row
 ruled f g t row h e = e ∙ eqb→eq (f row) (g row) (at (λ (r : ℕ). eqb (f r) (g r)) row_count t row h)
 
-pub kind_ruled : {x : ℕ} (row : ℕ) → row < row_count → x ≡ kind_rule row → x ≡ kind_of row
+pub kind_ruled : (row : ℕ) → row < row_count → kind_of row ≡ kind_rule row
 unfolding kind_rule kind_of pick
-kind_ruled row h e = ruled kind_rule kind_of tt row h e
+kind_ruled row h = sym (ruled kind_rule kind_of tt row h refl)
 
 pub kind_few : (row : ℕ) → row < row_count → kind_of row < kind_count
 unfolding kind_of
@@ -72,13 +74,32 @@ pub width_past : (row : ℕ) → row_count ≤ row → width_of row ≡ 0
 unfolding width_of
 width_past row h = ap length (ranges_past row h)
 
-pub width_ruled : {x : ℕ} (row : ℕ) → row < row_count → x ≡ width_rule row → x ≡ width_of row
+pub width_ruled : (row : ℕ) → row < row_count → width_of row ≡ width_rule row
 unfolding width_rule width_of ranges_of kind_of pick
-width_ruled row h e = ruled width_rule width_of tt row h e
+width_ruled row h = sym (ruled width_rule width_of tt row h refl)
 
 pub width_some : (row : ℕ) → row < row_count → 0 < width_of row
 unfolding width_of ranges_of kind_of
 width_some row h = ltb→lt 0 (width_of row) (at (λ (r : ℕ). ltb 0 (width_of r)) row_count tt row h)
+
+pub plain_true : (f : Form) → T (is_plain f) → f ≡ plain
+plain_true Plain t = refl
+plain_true Worded t = absurd t
+plain_true Signed t = absurd t
+plain_true Listed t = absurd t
+
+-- the test for a list is of the form alone
+pub list_true : (f : Form) → is_list f ≡ true → f ≡ list
+list_true Plain t = absurd (subst T (sym t) tt)
+list_true Worded t = absurd (subst T (sym t) tt)
+list_true Signed t = absurd (subst T (sym t) tt)
+list_true Listed t = refl
+
+pub list_is : {f : Form} → f ≡ list → is_list f ≡ true
+list_is e = ap is_list e
+
+pub not_list : (f : Form) → (f ≡ list → ⊥) → is_list f ≡ false
+not_list f e = split (is_list f) (λ t. absurd (e (list_true f t))) (λ t. t)
 
 -- a list is a row of the table, and has as many numbers after its count as there is room for phases
 pub record ListRow (row : ℕ) : Type 0 where
@@ -95,16 +116,16 @@ list_row row e =
       inside = h;
       width =
           eqb→eq (width_of row) (1 + most_phases)
-          (given_then (eqb (form_of row) list) (eqb (width_of row) (1 + most_phases)) (at (λ (r : ℕ). given (eqb (form_of r) list) (eqb (width_of r) (1 + most_phases))) row_count tt row h)
-          (subst T (sym (eq-eqb (form_of row) list e)) tt));
+          (given_then (is_list (form_of row)) (eqb (width_of row) (1 + most_phases)) (at (λ (r : ℕ). given (is_list (form_of r)) (eqb (width_of r) (1 + most_phases))) row_count tt row h)
+          (rw (list_is e) tt));
     })
     (λ t.
     let past : form_of row ≡ plain = ap (λ (k : ℕ). (get_or kinds k none).form) (kind_past row (ltb-false row row_count t)) in
-    absurd (omega arith))
+    absurd (subst T (sym (list_is e) ∙ ap is_list past) tt))
 
-pub place_ruled : {x : ℕ} (row : ℕ) → row < row_count → x ≡ place_rule row → x ≡ place_of row
+pub place_ruled : (row : ℕ) → row < row_count → place_of row ≡ place_rule row
 unfolding place_rule place_of width_of ranges_of kind_of pick
-place_ruled row h e = ruled place_rule place_of tt row h e
+place_ruled row h = sym (ruled place_rule place_of tt row h refl)
 
 pub place_room : (row : ℕ) → row < row_count → place_of row + width_of row ≤ number_count
 unfolding place_of width_of ranges_of kind_of
@@ -164,12 +185,12 @@ for_row test t row j h hj =
     (omega arith))
     (lt→ltb j (width_of row) hj)
 
-pub least_ruled : {x : ℕ} (row j : ℕ) → row < row_count → j < width_of row → x ≡ least_rule row j → x ≡ (range_of row j).least
+pub least_ruled : (row j : ℕ) → row < row_count → j < width_of row → (range_of row j).least ≡ least_rule row j
 unfolding least_rule width_of ranges_of kind_of pick
-least_ruled row j h hj e =
-    e ∙ eqb→eq (least_rule row j) (range_of row j).least (for_row (λ (r i : ℕ). eqb (least_rule r i) (range_of r i).least) tt row j h hj)
+least_ruled row j h hj =
+    sym (eqb→eq (least_rule row j) (range_of row j).least (for_row (λ (r i : ℕ). eqb (least_rule r i) (range_of r i).least) tt row j h hj))
 
-pub most_ruled : {x : ℕ} (row j : ℕ) → row < row_count → j < width_of row → x ≡ most_rule row j → x ≡ (range_of row j).most
+pub most_ruled : (row j : ℕ) → row < row_count → j < width_of row → (range_of row j).most ≡ most_rule row j
 unfolding most_rule phase_most width_of ranges_of kind_of pick
-most_ruled row j h hj e =
-    e ∙ eqb→eq (most_rule row j) (range_of row j).most (for_row (λ (r i : ℕ). eqb (most_rule r i) (range_of r i).most) tt row j h hj)
+most_ruled row j h hj =
+    sym (eqb→eq (most_rule row j) (range_of row j).most (for_row (λ (r i : ℕ). eqb (most_rule r i) (range_of r i).most) tt row j h hj))

@@ -10,12 +10,12 @@ letters key = take 8 (key ++ replicate 8 32)
 unfoldable pub facts_of : ℕ → Key
 facts_of row =
     record {
-      0 = letters (key_of row);
-      1 = length (key_of row);
-      2 = form_of row;
-      3 = (range_of row 0).least;
-      4 = (range_of row 0).most;
-      5 = absent_of row;
+      letters = letters (key_of row);
+      length = length (key_of row);
+      form = form_of row;
+      least = (range_of row 0).least;
+      most = (range_of row 0).most;
+      absent = absent_of row;
     }
 
 -- where the first number of the row's kind stands

@@ -1,17 +1,18 @@
 -- How long a text can be, row by row: a number has at most 6 digits, a word 4 letters, a grade a sign more; how many numbers a list has is not written
-use Rattle.std.specs.Prelude.{ℕ, zero, suc, ◌+◌, ◌-◌, length, eqb}
+use Rattle.std.specs.Prelude.{ℕ, zero, suc, ◌+◌, ◌-◌, length}
 use Rattle.units.specs.Numbers.{pick}
-use Rattle.rows.specs.Table.{worded, signed, list, row_count, key_of, form_of, width_of}
+use Rattle.rows.specs.declared.table.Form.{Form}
+use Rattle.rows.specs.Table.{is_worded, is_signed, is_list, row_count, key_of, form_of, width_of}
 
-unfoldable pub longest_field : ℕ → ℕ
-longest_field form = pick (eqb form worded) 4 (pick (eqb form signed) 7 6)
+unfoldable pub longest_field : Form → ℕ
+longest_field form = pick (is_worded form) 4 (pick (is_signed form) 7 6)
 
-unfoldable pub longest_fields : ℕ → ℕ → ℕ
+unfoldable pub longest_fields : Form → ℕ → ℕ
 longest_fields form zero = 0
 longest_fields form (suc n) = 1 + longest_field form + longest_fields form n
 
 unfoldable pub most_fields : ℕ → ℕ
-most_fields row = pick (eqb (form_of row) list) (width_of row - 1) (width_of row)
+most_fields row = pick (is_list (form_of row)) (width_of row - 1) (width_of row)
 
 abbrev pub longest_row : ℕ → ℕ
 longest_row row = length (key_of row) + longest_fields (form_of row) (most_fields row) + 1

@@ -3,6 +3,10 @@ use Rattle.std.specs.Prelude.{ℕ, zero, suc, ◌+◌, ◌-◌, ◌*◌, Bool, t
 use Prim.Native.String as S
 use Prim.Native.Char.{code}
 use Rattle.units.specs.Numbers.{pick}
+use Rattle.rows.specs.declared.table.Form.{Form}
+use Rattle.rows.specs.declared.table.Form.TheVariants.{Plain, Worded, Signed, Listed}
+use Rattle.rows.specs.declared.table.Absent.{Absent}
+use Rattle.rows.specs.declared.table.Absent.TheVariants.{MustStand, AsBefore, AsNone}
 
 -- a text's bytes
 abbrev pub bytes : S.String → List ℕ
@@ -18,49 +22,78 @@ abbrev pub ◌to◌ : ℕ → ℕ → Range
 least to most = record { least = least; most = most }
 
 -- how the numbers of a line are written
-abbrev pub plain : ℕ
-plain = 0
+abbrev pub plain : Form
+plain = Plain
 
-abbrev pub worded : ℕ
-worded = 1
+abbrev pub worded : Form
+worded = Worded
 
-abbrev pub signed : ℕ
-signed = 2
+abbrev pub signed : Form
+signed = Signed
 
-abbrev pub list : ℕ
-list = 3
+abbrev pub list : Form
+list = Listed
+
+abbrev pub is_plain : Form → Bool
+is_plain Plain = true
+is_plain Worded = false
+is_plain Signed = false
+is_plain Listed = false
+
+abbrev pub is_worded : Form → Bool
+is_worded Plain = false
+is_worded Worded = true
+is_worded Signed = false
+is_worded Listed = false
+
+abbrev pub is_signed : Form → Bool
+is_signed Plain = false
+is_signed Worded = false
+is_signed Signed = true
+is_signed Listed = false
+
+abbrev pub is_list : Form → Bool
+is_list Plain = false
+is_list Worded = false
+is_list Signed = false
+is_list Listed = true
+
+-- a form by its number: 1 a word, 2 a number with a sign, 3 a list, and any other a plain number
+unfoldable pub form_by : ℕ → Form
+form_by n = pick (eqb n 1) worded (pick (eqb n 2) signed (pick (eqb n 3) list plain))
 
 -- what a line stands for where an older form of the sheet has not got it: a line must stand, or it stands for the number of the line before it, or for none
-abbrev pub must_stand : ℕ
-must_stand = 0
+abbrev pub must_stand : Absent → Bool
+must_stand MustStand = true
+must_stand AsBefore = false
+must_stand AsNone = false
 
-abbrev pub as_before : ℕ
-as_before = 1
-
-abbrev pub as_none : ℕ
-as_none = 2
+abbrev pub as_before : Absent → Bool
+as_before MustStand = false
+as_before AsBefore = true
+as_before AsNone = false
 
 -- a kind of line: its key, how its numbers are written, the range of each, how many lines of it a sheet can have, and what it stands for where it may be
 -- absent
 pub record Kind : Type 0 where
   pub key : List ℕ
-  pub form : ℕ
+  pub form : Form
   pub ranges : List Range
   pub lines : ℕ
-  pub absent : ℕ
+  pub absent : Absent
 
-abbrev pub kind : ℕ → S.String → List Range → Kind
-kind form key ranges = record { key = bytes key; form = form; ranges = ranges; lines = 1; absent = must_stand }
+abbrev pub kind : Form → S.String → List Range → Kind
+kind form key ranges = record { key = bytes key; form = form; ranges = ranges; lines = 1; absent = MustStand }
 
 -- "then that many `phase=` lines", "then that many `point=FEET,TENTHS` lines"
 abbrev pub up_to : ℕ → S.String → List Range → Kind
-up_to most key ranges = record { key = bytes key; form = plain; ranges = ranges; lines = most; absent = must_stand }
+up_to most key ranges = record { key = bytes key; form = plain; ranges = ranges; lines = most; absent = MustStand }
 
 -- a list of at most `most` numbers: first how many they are, then they
 abbrev pub list_of : ℕ → S.String → Range → Kind
-list_of most key range = record { key = bytes key; form = list; ranges = (0 to most) ∷ replicate most range; lines = 1; absent = must_stand }
+list_of most key range = record { key = bytes key; form = list; ranges = (0 to most) ∷ replicate most range; lines = 1; absent = MustStand }
 
-abbrev pub if_absent : ℕ → Kind → Kind
+abbrev pub if_absent : Absent → Kind → Kind
 if_absent absent k = record { key = k.key; form = k.form; ranges = k.ranges; lines = k.lines; absent = absent }
 
 abbrev pub most_phases : ℕ
@@ -76,7 +109,7 @@ kinds =
     ∷ kind worded "vehicle" ((0 to 3) ∷ [])
     ∷ kind signed "grade" ((999920 to 1000080) ∷ [])
     -- "Add `grade2` after `grade`, with the same range"; "a converter writes both grades equal"
-    ∷ if_absent as_before (kind signed "grade2" ((999920 to 1000080) ∷ []))
+    ∷ if_absent AsBefore (kind signed "grade2" ((999920 to 1000080) ∷ []))
     ∷ kind plain "l01" ((0 to 999) ∷ [])
     ∷ kind plain "l02" ((1 to 999) ∷ [])
     ∷ kind plain "phases" ((1 to most_phases) ∷ [])
@@ -85,7 +118,7 @@ kinds =
     -- yellow, red
     ∷ kind plain "track" ((30 to 60) ∷ (0 to 60) ∷ [])
     -- "after `track`, `dwell=` with rising phase numbers and commas between, or 0 for none"
-    ∷ if_absent as_none (list_of most_phases "dwell" (1 to 8))
+    ∷ if_absent AsNone (list_of most_phases "dwell" (1 to 8))
     ∷ kind plain "l18" ((0 to 1000) ∷ [])
     ∷ kind plain "l19" ((1 to 400) ∷ [])
     ∷ kind plain "l20" ((1 to 150) ∷ [])
@@ -170,7 +203,7 @@ first_point = row_for "point"
 
 -- no kind and no range, for what stands past the table
 abbrev pub none : Kind
-none = record { key = []; form = plain; ranges = []; lines = 0; absent = must_stand }
+none = record { key = []; form = plain; ranges = []; lines = 0; absent = MustStand }
 
 unfoldable pub kind_of : ℕ → ℕ
 kind_of row = get_or rows row kind_count
@@ -178,13 +211,13 @@ kind_of row = get_or rows row kind_count
 unfoldable pub key_of : ℕ → List ℕ
 key_of row = (get_or kinds (kind_of row) none).key
 
-unfoldable pub form_of : ℕ → ℕ
+unfoldable pub form_of : ℕ → Form
 form_of row = (get_or kinds (kind_of row) none).form
 
 unfoldable pub ranges_of : ℕ → List Range
 ranges_of row = (get_or kinds (kind_of row) none).ranges
 
-unfoldable pub absent_of : ℕ → ℕ
+unfoldable pub absent_of : ℕ → Absent
 absent_of row = (get_or kinds (kind_of row) none).absent
 
 abbrev pub range_of : ℕ → ℕ → Range
@@ -200,7 +233,7 @@ place_of (suc row) = place_of row + width_of row
 
 -- the numbers that a sheet has of a row: of a list its count and as many as it counts, else all
 unfoldable pub used_ranges : List ℕ → ℕ → List Range
-used_ranges v row = pick (eqb (form_of row) list) (take (1 + get_or v (place_of row) 0) (ranges_of row)) (ranges_of row)
+used_ranges v row = pick (is_list (form_of row)) (take (1 + get_or v (place_of row) 0) (ranges_of row)) (ranges_of row)
 
 unfoldable pub in_range : Range → ℕ → Bool
 in_range r x = pick (leb r.least x) (leb x r.most) false

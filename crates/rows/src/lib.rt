@@ -4,6 +4,5 @@
 pub mod table;
 
 pub use table::{
-    FIRST_PHASE, FIRST_POINT, Key, LIST, NUMBERS, PHASE_KIND, POINT_KIND, ROWS, SIGNED, WORDED,
-    facts,
+    Absent, FIRST_PHASE, FIRST_POINT, Form, Key, NUMBERS, PHASE_KIND, POINT_KIND, ROWS, facts,
 };

@@ -45,35 +45,28 @@ fn with_point(v: &mut [u32; NUMBERS], at: usize, p: Point)
     v[at + 1] = p.tenths;
 }
 
+// Three loops and not one of a type parameter: a closure from an entry to its numbers would put its own contract into each call, for loops of one line.
 fn with_phases(v: &mut [u32; NUMBERS], phases: [Phase; MOST_PHASES])
     ensures { v.new ≡ sets v.old (place_for "phase") (numbers_from phase_numbers zero_phase most_phases 0 phases) }
 {
-    let mut i: usize = 0;
-    while i < MOST_PHASES {
-        let p = phases[i];
-        with_phase(v, table::PHASE + 8 * i, p);
-        i += 1;
+    for i in 0..MOST_PHASES {
+        with_phase(v, table::PHASE + 8 * i, phases[i]);
     }
 }
 
 fn with_dwell(v: &mut [u32; NUMBERS], dwell: [u32; MOST_PHASES])
     ensures { v.new ≡ sets v.old (dwell_place 0) (numbers_from itself 0 most_phases 0 dwell) }
 {
-    let mut i: usize = 0;
-    while i < MOST_PHASES {
+    for i in 0..MOST_PHASES {
         v[table::DWELL + 1 + i] = dwell[i];
-        i += 1;
     }
 }
 
 fn with_points(v: &mut [u32; NUMBERS], points: [Point; MOST_POINTS])
     ensures { v.new ≡ sets v.old (place_for "point") (numbers_from point_numbers zero_point most_points 0 points) }
 {
-    let mut i: usize = 0;
-    while i < MOST_POINTS {
-        let p = points[i];
-        with_point(v, table::POINT + 2 * i, p);
-        i += 1;
+    for i in 0..MOST_POINTS {
+        with_point(v, table::POINT + 2 * i, points[i]);
     }
 }
 
@@ -81,13 +74,9 @@ fn with_points(v: &mut [u32; NUMBERS], points: [Point; MOST_POINTS])
 pub fn flat(s: Sheet) -> [u32; NUMBERS]
     ensures { result ≡ flat_of s }
 {
-    let vehicle = s.vehicle;
-    let phases = s.phases;
-    let dwell = s.dwell;
-    let points = s.points;
     let mut v = [0u32; NUMBERS];
     v[table::ISSUE] = s.issue;
-    v[table::VEHICLE] = vehicle_number(vehicle);
+    v[table::VEHICLE] = vehicle_number(s.vehicle);
     v[table::GRADE] = graded::grade_number(s.grade);
     v[table::GRADE2] = graded::grade_number(s.grade2);
     v[table::L01] = s.l01;
@@ -110,8 +99,8 @@ pub fn flat(s: Sheet) -> [u32; NUMBERS]
     v[table::L57] = s.l57;
     v[table::L58] = s.l58;
     v[table::POINTS] = s.point_count;
-    with_phases(&mut v, phases);
-    with_dwell(&mut v, dwell);
-    with_points(&mut v, points);
+    with_phases(&mut v, s.phases);
+    with_dwell(&mut v, s.dwell);
+    with_points(&mut v, s.points);
     v
 }

@@ -1,4 +1,5 @@
-// What holds only zeros: a phase, a point, a sheet.
+// What holds only zeros: a phase, a point, a sheet. Written out and not derived as `Default`, which would say less: nothing else asks for a vehicle that
+// stands for none.
 #![tactic(auto)]
 
 ghost use Rattle.std.specs.Prelude.{◌≡◌};
@@ -31,25 +32,19 @@ pub fn zero_point() -> Point
 pub fn zero_sheet() -> Sheet
     ensures { result ≡ zero_sheet }
 {
-    let vehicle = Vehicle::Car;
-    let phase = zero_phase();
-    let phases = [phase; 8];
-    let point = zero_point();
-    let points = [point; 16];
-    let dwell = [0u32; 8];
     Sheet {
         issue: 0,
-        vehicle: vehicle,
+        vehicle: Vehicle::Car,
         grade: 0,
         grade2: 0,
         l01: 0,
         l02: 0,
         phase_count: 0,
-        phases: phases,
+        phases: [zero_phase(); 8],
         track_yellow: 0,
         track_red: 0,
         dwell_count: 0,
-        dwell: dwell,
+        dwell: [0; 8],
         l18: 0,
         l19: 0,
         l20: 0,
@@ -64,6 +59,6 @@ pub fn zero_sheet() -> Sheet
         l57: 0,
         l58: 0,
         point_count: 0,
-        points: points,
+        points: [zero_point(); 16],
     }
 }

@@ -19,7 +19,7 @@ used-n-requires c =
 
 pub loop-j-init : goal.loop-j-init
 loop-j-init c =
-    let e : c.place-at.result + 0 ≡ place_of c.args.row = omega (arith, c.place-at.ensures) in (omega arith, rw (e, c.used-n.ensures.1) refl)
+    let e : c.place-at.result + 0 ≡ place_of c.args.row = omega (arith, c.place-at.ensures) in rw (e, c.used-n.ensures.1) refl
 
 pub overflow_add-at : goal.overflow_add-at
 overflow_add-at c =
@@ -36,14 +36,14 @@ bounds-numbers-at c =
 pub loop-j-preserved : goal.loop-j-preserved
 unfolding width_of
 loop-j-preserved c =
-    (omega arith, sym (in_step c.args.numbers.now c.place-at.result (ranges_of c.args.row) _ c.used-n.ensures.0 c.loop-j.j (omega arith) (sym c.in_range.ensures ∙ c.if-in_range.true)) ∙ c.loop-j.invariant.1)
+    sym (in_step c.args.numbers.now c.place-at.result (ranges_of c.args.row) _ c.used-n.ensures.0 c.loop-j.j (omega arith) (sym c.in_range.ensures ∙ c.if-not-in_range.false)) ∙ c.loop-j.invariant
 
-pub returns-else-in_range : goal.returns-else-in_range
+pub returns-then-not-in_range : goal.returns-then-not-in_range
 unfolding width_of
-returns-else-in_range c =
-    sym (in_stop c.args.numbers.now c.place-at.result (ranges_of c.args.row) _ c.used-n.ensures.0 c.loop-j.j (omega arith) (sym c.in_range.ensures ∙ c.if-in_range.false)) ∙ c.loop-j.invariant.1
+returns-then-not-in_range c =
+    sym (in_stop c.args.numbers.now c.place-at.result (ranges_of c.args.row) _ c.used-n.ensures.0 c.loop-j.j (omega arith) (sym c.in_range.ensures ∙ c.if-not-in_range.true)) ∙ c.loop-j.invariant
 
 pub returns : goal.returns
 unfolding width_of
 returns c =
-    sym (in_end c.args.numbers.now c.place-at.result (ranges_of c.args.row) _ c.used-n.ensures.0 c.loop-j.j (omega arith)) ∙ c.loop-j.invariant.1
+    sym (in_end c.args.numbers.now c.place-at.result (ranges_of c.args.row) _ c.used-n.ensures.0 c.loop-j.j (omega arith)) ∙ c.loop-j.invariant

@@ -9,13 +9,13 @@ use Rattle.to_numbers.proofs.with_dwell.Goals as goal
 
 pub loop-i-init : goal.loop-i-init
 loop-i-init c =
-    (omega arith, refl)
+    refl
 
 pub loop-i-preserved : goal.loop-i-preserved
 loop-i-preserved c =
-    (omega arith, sym (next_number_lem c.args.dwell c.loop-i.v (dwell_place 0) most_phases c.loop-i.i (omega arith)) ∙ c.loop-i.invariant.1)
+    sym (next_number_lem c.args.dwell c.loop-i.v (dwell_place 0) most_phases c.loop-i.i (omega arith)) ∙ c.loop-i.invariant
 
 pub returns : goal.returns
 unfolding numbers_from
 returns c =
-    let e : most_phases - c.loop-i.i ≡ 0 = omega arith in rw e at c.loop-i.invariant.1
+    let e : most_phases - c.loop-i.i ≡ 0 = omega arith in rw e at c.loop-i.invariant

@@ -10,13 +10,13 @@ use Rattle.to_numbers.proofs.with_points.Goals as goal
 
 pub loop-i-init : goal.loop-i-init
 loop-i-init c =
-    (omega arith, refl)
+    refl
 
 pub loop-i-preserved : goal.loop-i-preserved
 loop-i-preserved c =
-    (omega arith, rw c.with_point.ensures (sym (next_entry point_numbers zero_point c.args.points c.loop-i.v (place_for "point") 2 most_points c.loop-i.i (omega arith) refl) ∙ c.loop-i.invariant.1))
+    rw c.with_point.ensures (sym (next_entry point_numbers zero_point c.args.points c.loop-i.v (place_for "point") 2 most_points c.loop-i.i (omega arith) refl) ∙ c.loop-i.invariant)
 
 pub returns : goal.returns
 unfolding numbers_from
 returns c =
-    let e : most_points - c.loop-i.i ≡ 0 = omega arith in rw e at c.loop-i.invariant.1
+    let e : most_points - c.loop-i.i ≡ 0 = omega arith in rw e at c.loop-i.invariant
