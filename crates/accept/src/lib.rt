@@ -2,18 +2,19 @@
 // with the ranges of the table of lines.
 #![tactic(auto)]
 
-ghost use Rattle.std.specs.Prelude.{◌≡◌, ◌+◌, ◌-◌, ◌≤◌, ◌<◌, min, eqb};
-ghost use Rattle.units.specs.Numbers.{pick, both};
-ghost use Rattle.sheet.specs.Refusals.{or_else};
-ghost use Rattle.rows.specs.Table.{in_range, range_of, row_for, row_count, first_phase, first_point, most_phases, most_points};
+ghost use Rattle.std.specs.Prelude.{◌≡◌, ◌+◌, ◌-◌, ◌≤◌, ◌<◌, eqb};
+ghost use Rattle.units.specs.Numbers.{pick};
+ghost use Rattle.rows.specs.Table.{row_count, first_phase, first_point, most_phases, most_points};
 ghost use Rattle.numbers.specs.Flat.{flat_of};
 ghost use Rattle.faults.specs.Lines.{starts_at_zero, point_rises, fault_from};
 ghost use Rattle.faults.specs.Whole.{accept_of};
 ghost use Rattle.faults.proofs.Accepted.{after_phases, between, first_single};
-ghost use Rattle.faults.proofs.Values.{absent_phases, one_fault, ones_of, point_line};
+ghost use Rattle.faults.proofs.Values.{one_fault, ones_of, point_line};
 
-use ranges::fits;
-use rows::table::{DWELL_ROW, MOST_PHASES, MOST_POINTS, SINGLE_ROW, TRACK_ROW};
+use answers::refuse_unless;
+use graded::grade_number;
+use ranges::{fits, row_fits};
+use rows::table::{DWELL_ROW, MOST_PHASES, SINGLE_ROW, TRACK_ROW};
 use rows::{FIRST_POINT, table};
 use sheet::{Answer, Point, Refusal, Sheet};
 
@@ -25,30 +26,25 @@ fn line_of(row: usize, absent: u32) -> u32
     (row + 1) as u32 - absent
 }
 
-// The first fault, where the next row has one number, x, and all rows before it are lines.
-fn next(fault: Answer, row: usize, x: u32) -> Answer
-    requires { row < row_count }
-    ensures { result ≡ or_else fault (one_fault row x 0) }
+// The fault of a row that has one number, x.
+fn one_fault(row: usize, x: u32, absent: u32) -> Answer
+    requires { (row < row_count) × (absent ≤ row) }
+    ensures { result ≡ one_fault row x absent }
 {
-    let line = line_of(row, 0);
-    let inside = fits(row, 0, x);
-    answers::or_else(
-        fault,
-        answers::refuse_unless(inside, Refusal::OutOfRange, line),
-    )
+    refuse_unless(fits(row, 0, x), Refusal::OutOfRange, line_of(row, absent))
 }
 
 // The rows before the phases. A vehicle is never out of its range.
+#[tactic(auto, using(crate::proofs::Stretches::head_rows), unfolding(sheet::specs::Refusals::or_else))]
 fn head_fault(s: Sheet) -> Answer
     ensures { result ≡ fault_from (flat_of s) first_phase 0 1 }
 {
-    let none = Answer::Fine;
-    let issue = next(none, table::ISSUE, s.issue);
-    let grade = next(issue, table::GRADE, graded::grade_number(s.grade));
-    let grade2 = next(grade, table::GRADE2, graded::grade_number(s.grade2));
-    let l01 = next(grade2, table::L01, s.l01);
-    let l02 = next(l01, table::L02, s.l02);
-    next(l02, table::PHASES, s.phase_count)
+    one_fault(table::ISSUE, s.issue, 0)?;
+    one_fault(table::GRADE, grade_number(s.grade), 0)?;
+    one_fault(table::GRADE2, grade_number(s.grade2), 0)?;
+    one_fault(table::L01, s.l01, 0)?;
+    one_fault(table::L02, s.l02, 0)?;
+    one_fault(table::PHASES, s.phase_count, 0)
 }
 
 // How many rows of one number stand past the list for dwell, and their first fault.
@@ -58,40 +54,18 @@ fn singles_fault(numbers: [u32; SINGLES], absent: u32) -> Answer
     requires { absent ≤ most_phases }
     ensures { result ≡ ones_of numbers first_single absent }
 {
-    let mut i: usize = 0;
-    while i < SINGLES {
-        if fits(SINGLE_ROW + i, 0, numbers[i]) {
-            i += 1;
-        } else {
-            return Answer::Refused(Refusal::OutOfRange, line_of(SINGLE_ROW + i, absent));
-        }
+    for i in 0..SINGLES {
+        one_fault(SINGLE_ROW + i, numbers[i], absent)?;
     }
-    Answer::Fine
-}
-
-fn track_in(yellow: u32, red: u32) -> bool
-    ensures { result ≡ both (in_range (range_of (row_for "track") 0) yellow) (in_range (range_of (row_for "track") 1) red) }
-{
-    if fits(TRACK_ROW, 0, yellow) {
-        fits(TRACK_ROW, 1, red)
-    } else {
-        false
-    }
+    Ok(())
 }
 
 // The rows from the track to the number of points.
+#[tactic(auto, using(crate::proofs::Stretches::middle_rows), unfolding(sheet::specs::Refusals::or_else))]
 fn middle_fault(s: Sheet, absent: u32) -> Answer
     requires { absent ≤ most_phases }
     ensures { result ≡ fault_from (flat_of s) between after_phases (after_phases + 1 - absent) }
 {
-    let line = line_of(TRACK_ROW, absent);
-    let track = answers::refuse_unless(
-        track_in(s.track_yellow, s.track_red),
-        Refusal::OutOfRange,
-        line,
-    );
-    let named = s.dwell;
-    let dwell = dwell_line::dwell_fault(named, s.dwell_count, line_of(DWELL_ROW, absent));
     let numbers = [
         s.l18,
         s.l19,
@@ -108,85 +82,60 @@ fn middle_fault(s: Sheet, absent: u32) -> Answer
         s.l58,
         s.point_count,
     ];
-    answers::or_else(
-        track,
-        answers::or_else(dwell, singles_fault(numbers, absent)),
-    )
+    let track = row_fits(TRACK_ROW, &[s.track_yellow, s.track_red]);
+    refuse_unless(track, Refusal::OutOfRange, line_of(TRACK_ROW, absent))?;
+    dwell_line::dwell_fault(&s, line_of(DWELL_ROW, absent))?;
+    singles_fault(numbers, absent)
 }
 
-fn point_in(p: Point) -> bool
-    ensures { result ≡ both (in_range (range_of first_point 0) p.feet) (in_range (range_of first_point 1) p.tenths) }
+// The first point has none before it.
+#[tactic(auto, unfolding(faults::specs::Lines::point_follows, units::specs::Numbers::pick))]
+fn point_fits(i: usize, before: Point, p: Point) -> bool
+    ensures { result ≡ pick (eqb i 0) (starts_at_zero p) (point_rises before p) }
 {
-    if fits(FIRST_POINT, 0, p.feet) {
-        fits(FIRST_POINT, 1, p.tenths)
-    } else {
-        false
+    if i == 0 {
+        return entry_rules::point_fits(None, p);
     }
+    entry_rules::point_fits(Some(before), p)
 }
 
 // Point i, p, after the point `before`.
+#[tactic(auto, unfolding(sheet::specs::Refusals::or_else))]
 fn point_line(i: usize, before: Point, p: Point, absent: u32) -> Answer
     requires { (i < most_points) × (absent ≤ most_phases) }
     ensures { result ≡ point_line (pick (eqb i 0) (starts_at_zero p) (point_rises before p)) p (first_point + i + 1 - absent) }
 {
     let line = line_of(FIRST_POINT + i, absent);
-    let inside = answers::refuse_unless(point_in(p), Refusal::OutOfRange, line);
-    let rises = entry_rules::point_fits(i, before, p);
-    answers::or_else(
-        inside,
-        answers::refuse_unless(rises, Refusal::PointsDontRise, line),
-    )
+    let inside = row_fits(FIRST_POINT, &[p.feet, p.tenths]);
+    refuse_unless(inside, Refusal::OutOfRange, line)?;
+    let rises = point_fits(i, before, p);
+    refuse_unless(rises, Refusal::PointsDontRise, line)
 }
 
-// How many of the counted points there is room for.
-fn listed_points(count: u32) -> usize
-    ensures { result ≡ min count most_points }
-{
-    units::smaller(count as u64, MOST_POINTS as u64) as usize
-}
-
+// The walk of `phase_lines` over other entries. One walk for both would take the entry's rule as a closure, whose contract is longer than the walk.
 fn points_fault(s: Sheet, absent: u32) -> Answer
     requires { absent ≤ most_phases }
     ensures { result ≡ fault_from (flat_of s) most_points first_point (first_point + 1 - absent) }
 {
-    let points = s.points;
-    let n = listed_points(s.point_count);
+    let points = s.listed_points();
     let mut before = zeros::zero_point();
-    let mut i: usize = 0;
-    while i < n {
+    for i in 0..points.len() {
         let p = points[i];
-        let fault = point_line(i, before, p, absent);
-        if answers::is_fine(fault) {
-            before = p;
-            i += 1;
-        } else {
-            return fault;
-        }
+        point_line(i, before, p, absent)?;
+        before = p;
     }
-    Answer::Fine
-}
-
-// How many rows of phases are past the count.
-fn absent_phases(count: u32) -> u32
-    ensures { result ≡ absent_phases count }
-{
-    let listed = units::smaller(count as u64, MOST_PHASES as u64);
-    (MOST_PHASES as u64 - listed) as u32
+    Ok(())
 }
 
 // The answer to a sheet handed over as values.
+#[tactic(auto, using(crate::proofs::Stretches::all_rows), unfolding(sheet::specs::Refusals::or_else))]
 pub fn accept(s: Sheet) -> Answer
     ensures { result ≡ accept_of s }
 {
-    let absent = absent_phases(s.phase_count);
-    let head = head_fault(s);
-    let phases = phase_lines::phases_fault(s);
-    let middle = middle_fault(s, absent);
-    let points = points_fault(s, absent);
-    let lines = answers::or_else(
-        head,
-        answers::or_else(phases, answers::or_else(middle, points)),
-    );
-    let whole = whole_fault::whole_fault(s);
-    answers::or_else(lines, whole)
+    let absent = (MOST_PHASES as u32).saturating_sub(s.phase_count);
+    head_fault(s)?;
+    phase_lines::phases_fault(s)?;
+    middle_fault(s, absent)?;
+    points_fault(s, absent)?;
+    whole_fault::whole_fault(s)
 }

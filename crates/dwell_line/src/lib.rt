@@ -2,46 +2,29 @@
 #![tactic(auto)]
 
 ghost use Rattle.std.specs.Prelude.{◌≡◌};
-ghost use Rattle.faults.specs.Dwell.{numbers_fit, dwell_inside, dwell_line};
+ghost use Rattle.std.specs.List.{list_all};
+ghost use Rattle.rows.specs.Table.{row_for, range_of, in_range};
+ghost use Rattle.faults.specs.Dwell.{dwell_line};
 
+use answers::refuse_unless;
 use ranges::fits;
 use rows::table::DWELL_ROW;
-use sheet::{Answer, Refusal};
+use sheet::{Answer, Refusal, Sheet};
 
-// Each of the first `count` numbers is in its range.
-fn numbers_fit(dwell: [u32; 8], count: u32) -> bool
-    ensures { result ≡ numbers_fit count dwell }
+// Each of the numbers is in its range, which is the same for all.
+fn numbers_fit(numbers: &[u32]) -> bool
+    ensures { result ≡ list_all (in_range (range_of (row_for "dwell") 1)) numbers.now }
 {
-    let n = units::smaller(count as u64, 8) as usize;
-    let mut j: usize = 0;
-    while j < n {
-        if fits(DWELL_ROW, 1 + j, dwell[j]) {
-            j += 1;
-        } else {
-            return false;
-        }
-    }
-    true
-}
-
-fn inside(dwell: [u32; 8], count: u32) -> bool
-    ensures { result ≡ dwell_inside count dwell }
-{
-    if fits(DWELL_ROW, 0, count) {
-        numbers_fit(dwell, count)
-    } else {
-        false
-    }
+    numbers.iter().all(|number| fits(DWELL_ROW, 1, *number))
 }
 
 // On that line of the text, 2 before 3.
-pub fn dwell_fault(dwell: [u32; 8], count: u32, line: u32) -> Answer
-    ensures { result ≡ dwell_line count dwell line }
+#[tactic(auto, using(faults::proofs::Values::dwell_line_lem), unfolding(sheet::specs::Refusals::or_else))]
+pub fn dwell_fault(s: &Sheet, line: u32) -> Answer
+    ensures { result ≡ dwell_line s.now.dwell_count s.now.dwell line }
 {
-    let ranges = answers::refuse_unless(inside(dwell, count), Refusal::OutOfRange, line);
-    let rises = entry_rules::rises(dwell, count);
-    answers::or_else(
-        ranges,
-        answers::refuse_unless(rises, Refusal::PhasesDontRise, line),
-    )
+    let numbers = s.dwell_numbers();
+    refuse_unless(fits(DWELL_ROW, 0, s.dwell_count), Refusal::OutOfRange, line)?;
+    refuse_unless(numbers_fit(numbers), Refusal::OutOfRange, line)?;
+    refuse_unless(entry_rules::rises(numbers), Refusal::PhasesDontRise, line)
 }

@@ -20,8 +20,8 @@ point_fits_fixed κs a z z' w w' p q = (p ∙ sym q, refl)
 pub point_fits_open : AsksNothing 0 point_fits_kinds.ps point_fits_reads.Asked
 point_fits_open κs a = tt
 
-pub rises_fixed : Fixes 0 rises_kinds.ps rises_kinds.r rises_reads.Learnt
+pub rises_fixed : Fixes 1 rises_kinds.ps rises_kinds.r rises_reads.Learnt
 rises_fixed κs a z z' w w' p q = (p ∙ sym q, refl)
 
-pub rises_open : AsksNothing 0 rises_kinds.ps rises_reads.Asked
+pub rises_open : AsksNothing 1 rises_kinds.ps rises_reads.Asked
 rises_open κs a = tt

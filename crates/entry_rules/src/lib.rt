@@ -1,84 +1,72 @@
 // The rules that a phase, a point and a list keep besides their ranges: refusals 3 to 6. They are asked of a text's numbers and of a sheet's values alike.
 #![tactic(auto)]
 
-ghost use Rattle.std.specs.Prelude.{◌≡◌, eqb, take};
-ghost use Rattle.units.specs.Numbers.{pick};
-ghost use Rattle.faults.specs.Lines.{quiet_in_mode_zero, clears_yellow_and_red, phase_fault, starts_at_zero, point_rises, rises_after};
+ghost use Rattle.std.specs.Prelude.{◌≡◌};
+ghost use Rattle.faults.specs.Lines.{quiet_in_mode_zero, clears_yellow_and_red, phase_fault, starts_at_zero, point_rises, point_follows, rises_after};
 
+use answers::refuse_unless;
 use sheet::{Answer, Phase, Point, Refusal};
 
+#[tactic(auto, unfolding(faults::specs::Lines::quiet_in_mode_zero, units::specs::Numbers::pick))]
 fn quiet_in_mode_zero(p: Phase) -> bool
     ensures { result ≡ quiet_in_mode_zero p }
 {
-    if p.mode == 0 {
-        if p.walk == 0 { p.clearance == 0 } else { false }
-    } else {
-        true
-    }
+    p.mode != 0 || (p.walk == 0 && p.clearance == 0)
 }
 
+#[tactic(auto, unfolding(faults::specs::Lines::clears_yellow_and_red, units::specs::Numbers::pick))]
 fn clears_yellow_and_red(p: Phase) -> bool
     ensures { result ≡ clears_yellow_and_red p }
 {
-    if p.mode == 2 {
-        p.yellow as u64 + p.red as u64 <= p.clearance as u64
-    } else {
-        true
-    }
+    p.mode != 2 || u64::from(p.yellow) + u64::from(p.red) <= u64::from(p.clearance)
 }
 
 // The phase p after the phase `before`.
+#[tactic(auto, unfolding(faults::specs::Lines::phase_fault, sheet::specs::Refusals::or_else))]
 pub fn phase_fault(before: Phase, p: Phase, line: u32) -> Answer
     ensures { result ≡ phase_fault before p line }
 {
-    let rises = answers::refuse_unless(before.number < p.number, Refusal::PhasesDontRise, line);
-    let quiet = answers::refuse_unless(quiet_in_mode_zero(p), Refusal::PedestriansInModeZero, line);
-    let late = answers::refuse_unless(clears_yellow_and_red(p), Refusal::ClearanceTooShort, line);
-    answers::or_else(rises, answers::or_else(quiet, late))
+    refuse_unless(before.number < p.number, Refusal::PhasesDontRise, line)?;
+    refuse_unless(quiet_in_mode_zero(p), Refusal::PedestriansInModeZero, line)?;
+    refuse_unless(clears_yellow_and_red(p), Refusal::ClearanceTooShort, line)
 }
 
+#[tactic(auto, unfolding(faults::specs::Lines::starts_at_zero, units::specs::Numbers::pick))]
 fn starts_at_zero(p: Point) -> bool
     ensures { result ≡ starts_at_zero p }
 {
-    if p.feet == 0 { p.tenths == 0 } else { false }
+    p.feet == 0 && p.tenths == 0
 }
 
+#[tactic(auto, unfolding(faults::specs::Lines::point_rises, units::specs::Numbers::pick))]
 fn point_rises(before: Point, p: Point) -> bool
     ensures { result ≡ point_rises before p }
 {
-    if before.feet < p.feet {
-        before.tenths <= p.tenths
-    } else {
-        false
+    before.feet < p.feet && before.tenths <= p.tenths
+}
+
+// The point p after the one before it; the first has none.
+#[tactic(auto, unfolding(faults::specs::Lines::point_follows))]
+pub fn point_fits(before: Option<Point>, p: Point) -> bool
+    ensures { result ≡ point_follows before p }
+{
+    match before {
+        None => starts_at_zero(p),
+        Some(before) => point_rises(before, p),
     }
 }
 
-// Point i, p, after the point `before`; the first has none before it.
-pub fn point_fits(i: usize, before: Point, p: Point) -> bool
-    ensures { result ≡ pick (eqb i 0) (starts_at_zero p) (point_rises before p) }
+// The numbers rise, from above 0.
+#[tactic(auto, using(faults::proofs::Lists::rise_next, faults::proofs::Lists::rise_stop, faults::proofs::Lists::rise_end))]
+pub fn rises(numbers: &[u32]) -> bool
+    ensures { result ≡ rises_after 0 numbers.now }
 {
-    if i == 0 {
-        starts_at_zero(p)
-    } else {
-        point_rises(before, p)
-    }
-}
-
-// The first `count` of the numbers rise, from above 0.
-pub fn rises(numbers: [u32; 8], count: u32) -> bool
-    ensures { result ≡ rises_after 0 (take count numbers) }
-{
-    let n = units::smaller(count as u64, 8) as usize;
-    let mut before: u32 = 0;
-    let mut i: usize = 0;
-    while i < n {
-        let x = numbers[i];
-        if before < x {
-            before = x;
-            i += 1;
-        } else {
+    let mut before = 0;
+    for number in numbers {
+        if *number <= before {
             return false;
         }
+        before = *number;
     }
     true
 }

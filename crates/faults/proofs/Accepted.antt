@@ -18,12 +18,12 @@ use Rattle.units.proofs.Tested.{at}
 use Rattle.sheet.specs.declared.Sheet.{Sheet}
 use Rattle.sheet.specs.declared.Vehicle.{Vehicle}
 use Rattle.sheet.specs.declared.Vehicle.TheVariants.{Car, Su, Bus, Wb50}
-use Rattle.sheet.specs.declared.Answer.TheVariants.{Fine}
+use Rattle.std.specs.Prelude.{Ok}
 use Rattle.sheet.specs.declared.Refusal.TheVariants.{OutOfRange}
 use Rattle.sheet.specs.Entries.{Shaped, listed_phases, dwell_numbers, nth_phase, nth_point}
 use Rattle.sheet.specs.Zero.{zero_phase, zero_point}
 use Rattle.sheet.proofs.Answers.{fine_both, holds}
-use Rattle.rows.specs.Table.{Range, ◌to◌, list, none, kinds, kind_of, form_of, ranges_of, range_of, width_of, place_of, used_ranges, in_range, in_ranges, present, phase_kind, point_kind, row_count, most_phases, most_points, row_for, place_for, first_phase, first_point}
+use Rattle.rows.specs.Table.{is_list, Range, ◌to◌, none, kinds, kind_of, form_of, ranges_of, range_of, width_of, place_of, used_ranges, in_range, in_ranges, present, phase_kind, point_kind, row_count, most_phases, most_points, row_for, place_for, first_phase, first_point}
 use Rattle.rows.proofs.Tables.{dwell_place_lem}
 use Rattle.numbers.specs.Flat.{vehicle_number, numbers_from, flat_of, phase_place, point_place}
 use Rattle.faults.specs.Lines.{rises_after, rule_fault, row_fault, here_fault, line_after, fault_from, lines_fault}
@@ -74,13 +74,13 @@ up_to h = record { low = zero-le; high = h }
 -- ---- rows
 
 abbrev FineAt : List ℕ → ℕ → Type 0
-FineAt v row = (line : ℕ) → here_fault v row line ≡ Fine
+FineAt v row = (line : ℕ) → here_fault v row line ≡ Ok tt
 
 abbrev FineFrom : List ℕ → ℕ → ℕ → Type 0
-FineFrom v n row = (line : ℕ) → fault_from v n row line ≡ Fine
+FineFrom v n row = (line : ℕ) → fault_from v n row line ≡ Ok tt
 
 fine_at : (v : List ℕ) (row at : ℕ) (rs : List Range) → place_of row ≡ at → used_ranges v row ≡ rs
-    → (present v row ≡ true → in_ranges v at rs ≡ true) → (present v row ≡ true → (line : ℕ) → rule_fault v row line ≡ Fine) → FineAt v row
+    → (present v row ≡ true → in_ranges v at rs ≡ true) → (present v row ≡ true → (line : ℕ) → rule_fault v row line ≡ Ok tt) → FineAt v row
 unfolding here_fault row_fault pick
 fine_at v row at rs p r w rule line =
     split (present v row)
@@ -225,7 +225,7 @@ module _ (s : Sheet) (shaped : Shaped s) (h : Sound s) where
   dwell_row =
       fine_at (flat_of s) (row_for "dwell") (place_for "dwell") _ dwell_place_lem (dwell_used s) (λ e. dwell_ranges) (λ e line. dwell_rule s line ∙ holds _ _ _ dwell_rises)
 
-  whole : whole_fault s ≡ Fine
+  whole : whole_fault s ≡ Ok tt
   unfolding whole_fault
   whole =
       let storage = h.storage in
@@ -247,7 +247,7 @@ vehicle_range Wb50 = up_to (omega arith)
 -- a row that has all its numbers, and no rule but their ranges
 pub record NoRule (row : ℕ) : Type 0 where
   pub used : (v : List ℕ) → used_ranges v row ≡ ranges_of row
-  pub rule : (v : List ℕ) (line : ℕ) → rule_fault v row line ≡ Fine
+  pub rule : (v : List ℕ) (line : ℕ) → rule_fault v row line ≡ Ok tt
 
 -- n rows from `row` on
 
@@ -270,7 +270,7 @@ plain v (suc n) row none w (suc i) h =
 
 -- a row whose kind is neither a phase nor a point, and no list
 unfoldable pub unruled : ℕ → Bool
-unruled row = pick (eqb (kind_of row) phase_kind) false (pick (eqb (kind_of row) point_kind) false (pick (eqb (form_of row) list) false true))
+unruled row = pick (eqb (kind_of row) phase_kind) false (pick (eqb (kind_of row) point_kind) false (pick (is_list (form_of row)) false true))
 
 pub no_rule : (row : ℕ) → T (unruled row) → NoRule row
 unfolding used_ranges rule_fault unruled pick
@@ -281,7 +281,7 @@ no_rule row t =
     split (eqb (kind_of row) point_kind)
     (λ d. absurd (rw (e, d) at t))
     (λ d.
-    split (eqb (form_of row) list)
+    split (is_list (form_of row))
     (λ f. absurd (rw (e, d, f) at t))
     (λ f. record { used = λ v. rw f refl; rule = λ v line. rw (e, d, f) refl })))
 
@@ -316,7 +316,7 @@ no_rows : (v : List ℕ) (row : ℕ) → FineFrom v 0 row
 unfolding fault_from
 no_rows v row line = refl
 
-lines_fine : (s : Sheet) → Shaped s → Sound s → lines_fault (flat_of s) ≡ Fine
+lines_fine : (s : Sheet) → Shaped s → Sound s → lines_fault (flat_of s) ≡ Ok tt
 lines_fine s shaped h =
     let v = flat_of s in
     let points : FineFrom v most_points first_point = block v most_points 0 most_points first_point refl (point_row s shaped h) (no_rows v row_count) in

@@ -5,7 +5,7 @@ use mathlib.Core.List.{List}
 use Prim.Native.Nat.{ℕ, zero, suc, ◌+◌, ◌-◌, ◌<◌}
 use native.Mathlib.Omega.{arith}
 use Rattle.units.specs.Numbers.{pick}
-use Rattle.sheet.specs.declared.Answer.TheVariants.{Fine}
+use Rattle.std.specs.Prelude.{Ok}
 use Rattle.sheet.specs.Refusals.{is_fine, or_else}
 use Rattle.sheet.proofs.Answers.{fine_or, bad_or, or_or}
 use Rattle.rows.specs.Table.{present}
@@ -26,7 +26,7 @@ module _ (v : List ℕ) (first n i line : ℕ) where
   bad_row h t f = let e : n - i ≡ suc (n - (i + 1)) = omega arith in rw (e, t) (bad_or _ _ f)
 
 -- rows that are no lines
-pub no_lines : (v : List ℕ) (n row line : ℕ) → ((k : ℕ) → k < n → present v (row + k) ≡ false) → fault_from v n row line ≡ Fine
+pub no_lines : (v : List ℕ) (n row line : ℕ) → ((k : ℕ) → k < n → present v (row + k) ≡ false) → fault_from v n row line ≡ Ok tt
 unfolding fault_from here_fault line_after pick or_else
 no_lines v zero row line none = refl
 no_lines v (suc n) row line none =

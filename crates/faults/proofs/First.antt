@@ -13,9 +13,8 @@ use Rattle.sheet.specs.declared.Phase.{Phase}
 use Rattle.sheet.specs.declared.Sheet.{Sheet}
 use Rattle.sheet.specs.Entries.{listed_phases, dwell_numbers}
 use Rattle.sheet.specs.declared.Refusal.{Refusal}
-use Rattle.sheet.specs.declared.Answer.{Answer}
-use Rattle.sheet.specs.declared.Answer.TheVariants.{Fine, Refused}
-use Rattle.sheet.specs.Refusals.{or_else}
+use Rattle.sheet.specs.Refusals.{Answer, refused, or_else}
+use Rattle.std.specs.Prelude.{Ok}
 use Rattle.sheet.proofs.Answers.{fine_or, bad_or, holds, fails}
 use Rattle.rows.specs.Table.{used_ranges, place_of, in_ranges}
 use Rattle.faults.specs.Lines.{quiet_in_mode_zero, clears_yellow_and_red, phase_fault, rises_after, row_fault}
@@ -25,11 +24,11 @@ use Rattle.faults.proofs.Rules.{quiet_holds, clears_holds}
 use Rattle.faults.proofs.Lists.{rise_steps, steps_rise, one_missing, missing_fails}
 use Rattle.faults.specs.First.{RowIsFirst, PhaseIsFirst, Falls, ListIsFirst, Unlisted, FirstOfSevenToTwelve, WholeIsFirst, AcceptIsFirst}
 
-refused_first : (a b : Answer) (r : Refusal) (l : ℕ) → a ≡ Refused r l → or_else a b ≡ Refused r l
+refused_first : (a b : Answer) (r : Refusal) (l : ℕ) → a ≡ refused r l → or_else a b ≡ refused r l
 unfolding or_else
 refused_first a b r l e = rw e refl
 
-passed_first : (a b c : Answer) → a ≡ Fine → b ≡ c → or_else a b ≡ c
+passed_first : (a b c : Answer) → a ≡ Ok tt → b ≡ c → or_else a b ≡ c
 unfolding or_else
 passed_first a b c e f = rw e f
 

@@ -6,14 +6,14 @@ use Prim.Native.Nat.{ℕ, zero, suc, ◌+◌, ◌<◌, ◌≤◌}
 use native.Mathlib.Nat.{not-suc-le-zero}
 use native.Mathlib.Omega.{arith}
 use lib.Dec.{eqb}
-use lib.ListN.{length, get_or, take, drop}
-use borrow.Author.Tests.{ltb-true, eqb-true, lt-ltb, le-ltb, eq-eqb, ne_eqb}
+use lib.ListN.{length, get_or, drop, drop_of_length-le}
+use borrow.Author.Tests.{ltb-true, eqb-true, lt-ltb, le-ltb, eq-eqb}
+use Rattle.std.specs.List.{list_any, list_all}
 use Rattle.units.specs.Numbers.{pick}
 use Rattle.units.specs.Lists.{All}
 use Rattle.units.proofs.Steps.{split, never, both_left, both_right}
-use Rattle.units.proofs.Walk.{left_at, none_left}
+use Rattle.units.proofs.Walk.{rest_at}
 use Rattle.sheet.specs.declared.Phase.{Phase}
-use Rattle.sheet.specs.Zero.{zero_phase}
 use Rattle.sheet.specs.Entries.{is_in}
 use Rattle.faults.specs.Lines.{rises_after}
 use Rattle.faults.specs.Whole.{listed_in, all_listed}
@@ -80,43 +80,29 @@ pub missing_fails : (ps : List Phase) (ns : List ℕ) → Missing ps ns → all_
 missing_fails ps ns m =
     split (all_listed ps ns) (λ t. never (sym m.missing ∙ listed_each ps ns t m.number m.is_here)) (λ t. t)
 
--- ---- loops along the first n entries of an array: what is left at entry i, and at the end
+-- ---- a loop along the numbers: what is left at the i-th, and at the end
 
-module _ (xs : List ℕ) (n : ℕ) (fits : n ≤ length xs) (before i : ℕ) where
-  pub rise_next : i < n → before < get_or xs i 0 → rises_after before (drop i (take n xs)) ≡ rises_after (get_or xs i 0) (drop (i + 1) (take n xs))
+module _ (before : ℕ) (xs : List ℕ) (i : ℕ) where
+  pub rise_next : i < length xs → before < get_or xs i 0 → rises_after before (drop i xs) ≡ rises_after (get_or xs i 0) (drop (i + 1) xs)
   unfolding rises_after pick
-  rise_next h up = rw (left_at xs n fits 0 i h) (rw (lt-ltb before (get_or xs i 0) up) refl)
+  rise_next h up = rw (rest_at 0 xs i h) (rw (lt-ltb before (get_or xs i 0) up) refl)
 
-  pub rise_stop : i < n → get_or xs i 0 ≤ before → rises_after before (drop i (take n xs)) ≡ false
+  pub rise_stop : i < length xs → get_or xs i 0 ≤ before → rises_after before (drop i xs) ≡ false
   unfolding rises_after pick
-  rise_stop h down = rw (left_at xs n fits 0 i h) (rw (le-ltb before (get_or xs i 0) down) refl)
+  rise_stop h down = rw (rest_at 0 xs i h) (rw (le-ltb before (get_or xs i 0) down) refl)
 
-  pub rise_end : n ≤ i → rises_after before (drop i (take n xs)) ≡ true
+  pub rise_end : length xs ≤ i → rises_after before (drop i xs) ≡ true
   unfolding rises_after
-  rise_end h = rw (none_left xs n fits i h) refl
+  rise_end h = rw (drop_of_length-le xs {i = i} h) refl
 
-module _ (ps : List Phase) (n : ℕ) (fits : n ≤ length ps) (number i : ℕ) where
-  pub listed_next : i < n → ((get_or ps i zero_phase).number ≡ number → ⊥) → listed_in (drop i (take n ps)) number ≡ listed_in (drop (i + 1) (take n ps)) number
-  unfolding listed_in pick
-  listed_next h other = rw (left_at ps n fits zero_phase i h) (rw (ne_eqb (get_or ps i zero_phase).number number other) refl)
+-- ---- the definitions are the library's `any` and `all`, which the code runs
 
-  pub listed_here : i < n → (get_or ps i zero_phase).number ≡ number → listed_in (drop i (take n ps)) number ≡ true
-  unfolding listed_in pick
-  listed_here h same = rw (left_at ps n fits zero_phase i h) (rw (eq-eqb (get_or ps i zero_phase).number number same) refl)
+pub listed_any : (ps : List Phase) (n : ℕ) → list_any (λ (p : Phase). eqb p.number n) ps ≡ listed_in ps n
+unfolding listed_in pick
+listed_any [] n = refl
+listed_any (p ∷ ps) n = split (eqb p.number n) (λ t. rw t refl) (λ t. rw t (listed_any ps n))
 
-  pub listed_end : n ≤ i → listed_in (drop i (take n ps)) number ≡ false
-  unfolding listed_in
-  listed_end h = rw (none_left ps n fits i h) refl
-
-module _ (ps : List Phase) (ns : List ℕ) (n : ℕ) (fits : n ≤ length ns) (i : ℕ) where
-  pub all_next : i < n → listed_in ps (get_or ns i 0) ≡ true → all_listed ps (drop i (take n ns)) ≡ all_listed ps (drop (i + 1) (take n ns))
-  unfolding all_listed pick
-  all_next h here = rw (left_at ns n fits 0 i h) (rw here refl)
-
-  pub all_stop : i < n → listed_in ps (get_or ns i 0) ≡ false → all_listed ps (drop i (take n ns)) ≡ false
-  unfolding all_listed pick
-  all_stop h gone = rw (left_at ns n fits 0 i h) (rw gone refl)
-
-  pub all_end : n ≤ i → all_listed ps (drop i (take n ns)) ≡ true
-  unfolding all_listed
-  all_end h = rw (none_left ns n fits i h) refl
+pub listed_all : (ps : List Phase) (ns : List ℕ) → list_all (listed_in ps) ns ≡ all_listed ps ns
+unfolding all_listed pick
+listed_all ps [] = refl
+listed_all ps (n ∷ ns) = split (listed_in ps n) (λ t. rw t (listed_all ps ns)) (λ t. rw t refl)

@@ -10,7 +10,7 @@ use lib.ListN.{length, get_or}
 use borrow.Author.Tests.{leb-true}
 use Rattle.units.specs.Numbers.{pick}
 use Rattle.units.proofs.Steps.{both_left, both_right}
-use Rattle.sheet.specs.declared.Answer.TheVariants.{Fine}
+use Rattle.std.specs.Prelude.{Ok}
 use Rattle.sheet.proofs.Answers.{both_fine, passes}
 use Rattle.rows.specs.Table.{Range, ◌to◌, in_range, in_ranges, used_ranges, place_of, present}
 use Rattle.faults.specs.Lines.{rule_fault, row_fault, here_fault, line_after, fault_from}
@@ -38,13 +38,13 @@ in_each v at (r ∷ rs) e (suc j) h =
 -- a row that is present, on whichever line it stands
 pub record FineRow (v : List ℕ) (row : ℕ) : Type 0 where
   pub line : ℕ
-  pub fine : row_fault v row line ≡ Fine
+  pub fine : row_fault v row line ≡ Ok tt
 
-here_fine : (v : List ℕ) (row line : ℕ) → here_fault v row line ≡ Fine → present v row ≡ true → row_fault v row line ≡ Fine
+here_fine : (v : List ℕ) (row line : ℕ) → here_fault v row line ≡ Ok tt → present v row ≡ true → row_fault v row line ≡ Ok tt
 unfolding here_fault pick
 here_fine v row line e t = rw t at e
 
-pub fine_rows : (v : List ℕ) (n row line : ℕ) → fault_from v n row line ≡ Fine → (k : ℕ) → k < n → present v (row + k) ≡ true → FineRow v (row + k)
+pub fine_rows : (v : List ℕ) (n row line : ℕ) → fault_from v n row line ≡ Ok tt → (k : ℕ) → k < n → present v (row + k) ≡ true → FineRow v (row + k)
 unfolding fault_from
 fine_rows v zero row line e k h p = absurd (not-suc-le-zero h)
 fine_rows v (suc n) row line e zero h p =
@@ -60,7 +60,7 @@ row_ranges v row f =
     let each = both_fine _ _ f.fine in
     search passes
 
-pub row_rule : (v : List ℕ) (row : ℕ) (f : FineRow v row) → rule_fault v row f.line ≡ Fine
+pub row_rule : (v : List ℕ) (row : ℕ) (f : FineRow v row) → rule_fault v row f.line ≡ Ok tt
 unfolding row_fault
 row_rule v row f =
     let each = both_fine _ _ f.fine in

@@ -7,7 +7,7 @@ use borrow.Author.Tests.{leb-true, ltb-true, eqb-true}
 use Rattle.units.proofs.Steps.{steps, split, never, both_left, both_right}
 use Rattle.sheet.specs.declared.Phase.{Phase}
 use Rattle.sheet.specs.declared.Point.{Point}
-use Rattle.sheet.specs.declared.Answer.TheVariants.{Fine}
+use Rattle.std.specs.Prelude.{Ok}
 use Rattle.sheet.proofs.Answers.{both_fine, passes, fine_both, holds}
 use Rattle.faults.specs.Lines.{quiet_in_mode_zero, clears_yellow_and_red, phase_fault, starts_at_zero, point_rises}
 
@@ -58,7 +58,7 @@ pub record PhaseKept (before p : Phase) : Type 0 where
   pub quiet : Quiet p
   pub late : p.mode ≡ 2 → p.yellow + p.red ≤ p.clearance
 
-pub phase_kept : (before p : Phase) (line : ℕ) → phase_fault before p line ≡ Fine → PhaseKept before p
+pub phase_kept : (before p : Phase) (line : ℕ) → phase_fault before p line ≡ Ok tt → PhaseKept before p
 unfolding phase_fault
 phase_kept before p line e =
     let first = both_fine _ _ e in
@@ -67,7 +67,7 @@ phase_kept before p line e =
     let q : quiet_in_mode_zero p ≡ true = passes _ _ _ rest.0 in
     record { rises = search ltb-true; quiet = record { walk = quiet_walk p q; clearance = quiet_clearance p q }; late = clears p (passes _ _ _ rest.1) }
 
-pub phase_fine : (before p : Phase) → PhaseKept before p → (line : ℕ) → phase_fault before p line ≡ Fine
+pub phase_fine : (before p : Phase) → PhaseKept before p → (line : ℕ) → phase_fault before p line ≡ Ok tt
 unfolding phase_fault
 phase_fine before p h line =
     let l = h.rises in

@@ -15,13 +15,13 @@ use Rattle.units.proofs.All.{all_from}
 use Rattle.units.proofs.Tested.{at}
 use Rattle.sheet.specs.declared.Phase.{Phase}
 use Rattle.sheet.specs.declared.Sheet.{Sheet}
-use Rattle.sheet.specs.declared.Answer.TheVariants.{Fine}
+use Rattle.std.specs.Prelude.{Ok}
 use Rattle.sheet.specs.declared.Refusal.TheVariants.{PhasesDontRise, PointsDontRise}
 use Rattle.sheet.specs.Refusals.{unless}
 use Rattle.sheet.specs.Entries.{listed_phases, dwell_numbers, nth_phase, nth_point}
 use Rattle.sheet.specs.Zero.{zero_phase, zero_point}
 use Rattle.sheet.proofs.Answers.{both_fine, passes}
-use Rattle.rows.specs.Table.{◌to◌, list, none, kinds, kind_of, form_of, ranges_of, range_of, width_of, place_of, used_ranges, in_ranges, present, row_count, most_phases, most_points, place_for, row_for, first_phase, first_point, phase_kind, point_kind}
+use Rattle.rows.specs.Table.{◌to◌, is_list, none, kinds, kind_of, form_of, ranges_of, range_of, width_of, place_of, used_ranges, in_ranges, present, row_count, most_phases, most_points, place_for, row_for, first_phase, first_point, phase_kind, point_kind}
 use Rattle.rows.proofs.Tables.{dwell_place_lem}
 use Rattle.numbers.specs.Flat.{phase_place, point_place, numbers_from, flat_of, phase_at, point_at, entries_from}
 use Rattle.numbers.proofs.Entries.{entries_long, entries_at}
@@ -161,7 +161,7 @@ unfolding ranges_of
 ranges_by k m e = ap (λ (n : ℕ). (get_or kinds n none).ranges) e
 
 -- a row that is no list has all its numbers
-pub used_by : (v : List ℕ) (k m : ℕ) → kind_of k ≡ m → eqb (get_or kinds m none).form list ≡ false → used_ranges v k ≡ (get_or kinds m none).ranges
+pub used_by : (v : List ℕ) (k m : ℕ) → kind_of k ≡ m → is_list (get_or kinds m none).form ≡ false → used_ranges v k ≡ (get_or kinds m none).ranges
 unfolding used_ranges form_of ranges_of kind_of pick
 used_by v k m e f = rw (e, f) refl
 
@@ -198,7 +198,7 @@ point_rule s i line h =
 
 -- ---- row by row
 
-module _ (s : Sheet) (e : lines_fault (flat_of s) ≡ Fine) where
+module _ (s : Sheet) (e : lines_fault (flat_of s) ≡ Ok tt) where
   row_fine : (k : ℕ) → k < row_count → present (flat_of s) k ≡ true → FineRow (flat_of s) k
   row_fine k h p = let z : 0 + k ≡ k = omega arith in rw z at (fine_rows (flat_of s) row_count 0 1 e k h (rw z p))
 
@@ -207,7 +207,7 @@ module _ (s : Sheet) (e : lines_fault (flat_of s) ≡ Fine) where
   number k h p j i = in_each (flat_of s) (place_of k) (used_ranges (flat_of s) k) (row_ranges (flat_of s) k (row_fine k h p)) j i
 
   -- the same of a row of a kind m at a place
-  number_of : (k m at : ℕ) → k < row_count → present (flat_of s) k ≡ true → kind_of k ≡ m → eqb (get_or kinds m none).form list ≡ false → place_of k ≡ at → (j : ℕ) → j < length (get_or kinds m none).ranges
+  number_of : (k m at : ℕ) → k < row_count → present (flat_of s) k ≡ true → kind_of k ≡ m → is_list (get_or kinds m none).form ≡ false → place_of k ≡ at → (j : ℕ) → j < length (get_or kinds m none).ranges
       → Between (get_or (get_or kinds m none).ranges j (0 to 0)).least (get_or (flat_of s) (at + j) 0) (get_or (get_or kinds m none).ranges j (0 to 0)).most
   number_of k m at h p ek ef ep j i =
       in_each (flat_of s) at (get_or kinds m none).ranges (rw (ep, used_by (flat_of s) k m ek ef) at (row_ranges (flat_of s) k (row_fine k h p))) j i

@@ -17,10 +17,11 @@ use Rattle.sheet.specs.declared.Point.{Point}
 use Rattle.sheet.specs.declared.Sheet.{Sheet}
 use Rattle.sheet.specs.declared.Vehicle.{Vehicle}
 use Rattle.sheet.specs.declared.Vehicle.TheVariants.{Car, Su, Bus, Wb50}
-use Rattle.sheet.specs.declared.Answer.{Answer}
-use Rattle.sheet.specs.declared.Answer.TheVariants.{Fine, Refused}
+use Rattle.sheet.specs.Refusals.{Answer, refused, is_fine, or_else, unless}
+use Rattle.std.specs.Prelude.{Ok, replicate}
+use Rattle.std.specs.List.{list_all}
+use Rattle.sheet.specs.declared.Refusal.{Refusal}
 use Rattle.sheet.specs.declared.Refusal.TheVariants.{OutOfRange, PhasesDontRise, PointsDontRise}
-use Rattle.sheet.specs.Refusals.{is_fine, or_else, unless}
 use Rattle.sheet.specs.Zero.{zero_phase, zero_point}
 use Rattle.sheet.specs.Entries.{nth_phase, nth_point}
 use Rattle.sheet.proofs.Answers.{or_or, or_fine}
@@ -42,7 +43,7 @@ one_fault row x absent = unless (in_range (range_of row 0) x) OutOfRange (row + 
 
 -- the first fault of rows that have one number each, xs, from `row` on
 unfoldable pub ones_of : List ℕ → ℕ → ℕ → Answer
-ones_of [] row absent = Fine
+ones_of [] row absent = Ok tt
 ones_of (x ∷ xs) row absent = or_else (one_fault row x absent) (ones_of xs (row + 1) absent)
 
 unfoldable has_one_number : ℕ → Bool
@@ -114,7 +115,7 @@ single_ones v i h =
     let e : after_phases + suc (suc i) ≡ first_single + i = omega arith in
     one_number v (first_single + i) (at (λ (k : ℕ). has_one_number (first_single + k)) singles tt i h) (rw e at (middle_here v (suc (suc i)) (omega arith)))
 
-vehicle_fine : (w : Vehicle) (line : ℕ) → unless (in_range (range_of (row_for "vehicle") 0) (vehicle_number w)) OutOfRange line ≡ Fine
+vehicle_fine : (w : Vehicle) (line : ℕ) → unless (in_range (range_of (row_for "vehicle") 0) (vehicle_number w)) OutOfRange line ≡ Ok tt
 unfolding ranges_of kind_of in_range pick unless
 vehicle_fine Car line = refl
 vehicle_fine Su line = refl
@@ -168,11 +169,6 @@ track_row s absent =
     or_fine _
     ∙ ap (λ (b : Bool). unless (both (in_range (range_of (row_for "track") 0) s.track_yellow) b) OutOfRange (row_for "track" + 1 - absent)) (last_of_both red)
 
--- the line for dwell, of the array as it is
-pub dwell_line_lem : (n : ℕ) (xs : List ℕ) (line : ℕ) → length xs ≡ most_phases → dwell_line n xs line ≡ or_else (unless (dwell_inside n xs) OutOfRange line) (unless (rises_after 0 (take n xs)) PhasesDontRise line)
-dwell_line_lem n xs line l =
-    ap (λ (ys : List ℕ). or_else (unless (dwell_inside n xs) OutOfRange line) (unless (rises_after 0 (take n ys)) PhasesDontRise line)) (entries_all xs most_phases 0 l)
-
 -- ranges go by the numbers, wherever they stand
 same_ranges : (v w : List ℕ) (at there : ℕ) (rs : List Range) → ((j : ℕ) → j < length rs → get_or v (at + j) 0 ≡ get_or w (there + j) 0) → in_ranges v at rs ≡ in_ranges w there rs
 unfolding in_ranges
@@ -187,6 +183,37 @@ same_ranges v w at there (r ∷ rs) f =
     let d : there + suc j ≡ there + 1 + j = omega arith in
     rw (c, d) at (f (suc j) (omega arith))) in
     λ i. pick (in_range r (here i)) (rest i) false
+
+-- one range for as many numbers as there are: the first n of them are in it
+one_range_all : (r : Range) (n : ℕ) (xs : List ℕ) → in_ranges xs 0 (take n (replicate (length xs) r)) ≡ list_all (in_range r) (take n xs)
+unfolding in_ranges pick
+one_range_all r zero xs = refl
+one_range_all r (suc n) [] = refl
+one_range_all r (suc n) (x ∷ xs) =
+    let rs = take n (replicate (length xs) r) in
+    let rest = same_ranges (x ∷ xs) xs (0 + 1) 0 rs (λ j h. let a : 0 + 1 + j ≡ suc j = omega arith in let b : 0 + j ≡ j = omega arith in rw (a, b) refl) in
+    split (in_range r x) (λ t. rw (t, rest) (one_range_all r n xs)) (λ t. rw t refl)
+
+-- two tests of one refusal are given one by one
+apart : (a b : Bool) (r : Refusal) (l : ℕ) → unless (both a b) r l ≡ or_else (unless a r l) (unless b r l)
+unfolding pick unless or_else
+apart true b r l = refl
+apart false b r l = refl
+
+-- the line for dwell, of the numbers that are counted: how many there are, then each of them, then that they rise
+pub dwell_line_lem : (n : ℕ) (xs : List ℕ) (line : ℕ) → length xs ≡ most_phases
+    → dwell_line n xs line
+    ≡ or_else (unless (in_range (range_of (row_for "dwell") 0) n) OutOfRange line)
+    (or_else (unless (list_all (in_range (range_of (row_for "dwell") 1)) (take n xs)) OutOfRange line)
+    (unless (rises_after 0 (take n xs)) PhasesDontRise line))
+unfolding ranges_of kind_of
+dwell_line_lem n xs line l =
+    let counts = in_range (range_of (row_for "dwell") 0) n in
+    let fit = rw l at (one_range_all (1 to 8) n xs) in
+    let rises = unless (rises_after 0 (take n xs)) PhasesDontRise line in
+    (λ i. or_else (unless (both counts (fit i)) OutOfRange line) (unless (rises_after 0 (take n (entries_all xs most_phases 0 l i))) PhasesDontRise line))
+    ∙ ap (λ (a : Answer). or_else a rises) (apart counts (list_all (in_range (1 to 8)) (take n xs)) OutOfRange line)
+    ∙ sym (or_or _ _ rises)
 
 dwell_numbers_lem : (s : Sheet) → in_ranges (flat_of s) (place_for "dwell") (take (1 + s.dwell_count) (ranges_of (row_for "dwell"))) ≡ dwell_inside s.dwell_count s.dwell
 unfolding in_ranges ranges_of kind_of
@@ -223,11 +250,11 @@ module _ (xs : List ℕ) (row absent i : ℕ) where
       let e : row + i + 1 ≡ row + (i + 1) = omega arith in
       rw (rest_at 0 xs i h, e) (rw t refl)
 
-  pub ones_stop : i < length xs → in_range (range_of (row + i) 0) (get_or xs i 0) ≡ false → ones_of (drop i xs) (row + i) absent ≡ Refused OutOfRange (row + i + 1 - absent)
+  pub ones_stop : i < length xs → in_range (range_of (row + i) 0) (get_or xs i 0) ≡ false → ones_of (drop i xs) (row + i) absent ≡ refused OutOfRange (row + i + 1 - absent)
   unfolding ones_of or_else unless
   ones_stop h t = rw (rest_at 0 xs i h) (rw t refl)
 
-  pub ones_end : length xs ≤ i → ones_of (drop i xs) (row + i) absent ≡ Fine
+  pub ones_end : length xs ≤ i → ones_of (drop i xs) (row + i) absent ≡ Ok tt
   unfolding ones_of
   ones_end h = rw (drop_of_length-le xs {i = i} h) refl
 
@@ -277,7 +304,7 @@ phase_absent v i h c =
     let e : first_phase + i - first_phase ≡ i = omega arith in
     rw (le-ltb (first_phase + i) first_phase (omega arith), lt-ltb (first_phase + i) after_phases (omega arith), e) (le-ltb i (get_or v (place_for "phases") 0) c)
 
-no_phases : (s : Sheet) (i line : ℕ) → min s.phase_count most_phases ≤ i → fault_from (flat_of s) (most_phases - i) (first_phase + i) line ≡ Fine
+no_phases : (s : Sheet) (i line : ℕ) → min s.phase_count most_phases ≤ i → fault_from (flat_of s) (most_phases - i) (first_phase + i) line ≡ Ok tt
 no_phases s i line h =
     no_lines (flat_of s) (most_phases - i) (first_phase + i) line
     (λ k b.
@@ -318,7 +345,7 @@ module _ (phases : List Phase) (n : ℕ) (held : Phase) (i line : ℕ) (a : Answ
       ∙ sym (bad_row (flat_of s) first_phase most_phases i line (omega (arith, en)) (phase_present (flat_of s) i (omega (arith, en)) (rw (phases_at s) (omega (arith, en)))) (ap is_fine (row_here s ep en) ∙ t))
       ∙ rw (← l) at at-line
 
-pub phases_end : (phases : List Phase) (n : ℕ) (held : Phase) (i : ℕ) → PhasesLeft phases n held i → n ≤ i → (s : Sheet) → s.phases ≡ phases → min s.phase_count most_phases ≡ n → Fine ≡ fault_from (flat_of s) most_phases first_phase (first_phase + 1)
+pub phases_end : (phases : List Phase) (n : ℕ) (held : Phase) (i : ℕ) → PhasesLeft phases n held i → n ≤ i → (s : Sheet) → s.phases ≡ phases → min s.phase_count most_phases ≡ n → (Ok tt) ≡ fault_from (flat_of s) most_phases first_phase (first_phase + 1)
 phases_end phases n held i left h s ep en = sym (no_phases s i (first_phase + i + 1) (omega (arith, en))) ∙ (left s ep en).1
 
 -- ---- points
@@ -353,7 +380,7 @@ point_absent v i c =
     let e : first_point + i - first_point ≡ i = omega arith in
     rw (le-ltb (first_point + i) first_phase (omega arith), le-ltb (first_point + i) after_phases (omega arith), le-ltb (first_point + i) first_point (omega arith), e) (le-ltb i (get_or v (place_for "points") 0) c)
 
-no_points : (s : Sheet) (i line : ℕ) → min s.point_count most_points ≤ i → fault_from (flat_of s) (most_points - i) (first_point + i) line ≡ Fine
+no_points : (s : Sheet) (i line : ℕ) → min s.point_count most_points ≤ i → fault_from (flat_of s) (most_points - i) (first_point + i) line ≡ Ok tt
 no_points s i line h =
     no_lines (flat_of s) (most_points - i) (first_point + i) line
     (λ k b.
@@ -400,7 +427,7 @@ module _ (points : List Point) (n absent : ℕ) (held : Point) (i line : ℕ) (a
       ∙ sym (bad_row (flat_of s) first_point most_points i line (omega (arith, en)) (point_present (flat_of s) i (omega (arith, en)) (rw (points_at s) (omega (arith, en)))) (ap is_fine (row_is s ep en) ∙ t))
       ∙ rw (← l) at at-line
 
-pub points_end : (points : List Point) (n absent : ℕ) (held : Point) (i : ℕ) → PointsLeft points n absent held i → n ≤ i → (s : Sheet) → s.points ≡ points → min s.point_count most_points ≡ n → Fine ≡ fault_from (flat_of s) most_points first_point (first_point + 1 - absent)
+pub points_end : (points : List Point) (n absent : ℕ) (held : Point) (i : ℕ) → PointsLeft points n absent held i → n ≤ i → (s : Sheet) → s.points ≡ points → min s.point_count most_points ≡ n → (Ok tt) ≡ fault_from (flat_of s) most_points first_point (first_point + 1 - absent)
 points_end points n absent held i left h s ep en = sym (no_points s i (first_point + i + 1 - absent) (omega (arith, en))) ∙ (left s ep en).1
 
 -- ---- all rows

@@ -1,9 +1,8 @@
 -- The line for dwell of a sheet handed over as values: a count and eight numbers. "Refusals: 3 when the numbers don't rise", after 2.
 use Rattle.std.specs.Prelude.{ℕ, Bool, List, get_or, take, drop}
 use Rattle.units.specs.Numbers.{both}
-use Rattle.sheet.specs.declared.Answer.{Answer}
+use Rattle.sheet.specs.Refusals.{Answer, or_else, unless}
 use Rattle.sheet.specs.declared.Refusal.TheVariants.{OutOfRange, PhasesDontRise}
-use Rattle.sheet.specs.Refusals.{or_else, unless}
 use Rattle.rows.specs.Table.{most_phases, row_for, ranges_of, range_of, in_range, in_ranges}
 use Rattle.numbers.specs.Flat.{entries_from}
 use Rattle.faults.specs.Lines.{rises_after}

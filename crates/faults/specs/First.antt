@@ -1,13 +1,11 @@
 -- Which refusal is given where several apply: "The first faulty line in file order decides, .. Then 7 to 11 in order".
-use Rattle.std.specs.Prelude.{ℕ, ◌+◌, ◌<◌, ◌≤◌, ◌≡◌, ◌⊎◌, true, false, List, length, get_or}
+use Rattle.std.specs.Prelude.{ℕ, ◌+◌, ◌<◌, ◌≤◌, ◌≡◌, ◌⊎◌, true, false, List, length, get_or, Ok}
 use Rattle.sheet.specs.declared.Sheet.{Sheet}
 use Rattle.sheet.specs.declared.Phase.{Phase}
 use Rattle.sheet.specs.declared.Refusal.{Refusal}
 use Rattle.sheet.specs.declared.Refusal.TheVariants.{OutOfRange, PhasesDontRise, PedestriansInModeZero, ClearanceTooShort, RelocationBeyondStorage, WarningTooShort, RelocationTooFar, TrackLongerThanTransfer, DwellPhaseNotListed}
-use Rattle.sheet.specs.declared.Answer.{Answer}
-use Rattle.sheet.specs.declared.Answer.TheVariants.{Fine, Refused}
+use Rattle.sheet.specs.Refusals.{Answer, refused, is_fine, unless}
 use Rattle.sheet.specs.Entries.{listed_phases, named}
-use Rattle.sheet.specs.Refusals.{is_fine, unless}
 use Rattle.transfer.specs.Promises.{AboveSixteen}
 use Rattle.rows.specs.Table.{used_ranges, place_of, in_ranges}
 use Rattle.numbers.specs.Flat.{flat_of}
@@ -17,7 +15,7 @@ use Rattle.faults.specs.Whole.{least_warning, line48, last_point, listed_in, who
 -- the answer is this refusal where the fault is there, and what follows says the answer where it is not: so a refusal is "given exactly
 -- when" its fault is there and none before it
 abbrev pub Given : Type 0 → Refusal → ℕ → (Answer → Type 0) → Answer → Type 0
-Given fault refusal line next answer = (fault → answer ≡ Refused refusal line) × ((fault → ⊥) → next answer)
+Given fault refusal line next answer = (fault → answer ≡ refused refusal line) × ((fault → ⊥) → next answer)
 
 -- "on one line the lowest number": 2 before all others
 abbrev pub RowIsFirst : Type 0
@@ -35,7 +33,7 @@ PhaseIsFirst =
     (Given ((p.mode ≡ 0) × (0 < p.walk + p.clearance)) PedestriansInModeZero line
     -- "mode 2 with clearance below yellow + red"
     (Given ((p.mode ≡ 2) × (p.clearance < p.yellow + p.red)) ClearanceTooShort line
-    (λ answer. answer ≡ Fine)))
+    (λ answer. answer ≡ Ok tt)))
     (phase_fault before p line)
 
 -- and 3 of a list, whose numbers are 1 to 8: one of them is not above the one before
@@ -48,7 +46,7 @@ abbrev pub ListIsFirst : Type 0
 ListIsFirst =
     (ns : List ℕ) (line : ℕ) → (0 < length ns → 0 < get_or ns 0 0)
     -- "3 when the numbers don't rise"
-    → Given (Falls ns) PhasesDontRise line (λ answer. answer ≡ Fine) (unless (rises_after 0 ns) PhasesDontRise line)
+    → Given (Falls ns) PhasesDontRise line (λ answer. answer ≡ Ok tt) (unless (rises_after 0 ns) PhasesDontRise line)
 
 -- a number that the sheet names for dwell, and no phase of that number listed
 pub record Unlisted (s : Sheet) : Type 0 where
@@ -69,7 +67,7 @@ FirstOfSevenToTwelve s =
     (Given (AboveSixteen (listed_phases s) s.track_yellow s.track_red) TrackLongerThanTransfer 0
     -- "a dwell phase not listed on the sheet"
     (Given (Unlisted s) DwellPhaseNotListed 0
-    (λ answer. answer ≡ Fine)))))
+    (λ answer. answer ≡ Ok tt)))))
 
 abbrev pub WholeIsFirst : Type 0
 WholeIsFirst = (s : Sheet) → FirstOfSevenToTwelve s (whole_fault s)

@@ -1,14 +1,12 @@
 -- Refusals 2 to 6, of a line: "The first faulty line in file order decides, and on one line the lowest number."
-use Rattle.std.specs.Prelude.{ℕ, zero, suc, ◌+◌, ◌-◌, Bool, true, false, List, [], ◌∷◌, leb, ltb, eqb, get_or, take, drop}
+use Rattle.std.specs.Prelude.{ℕ, zero, suc, ◌+◌, ◌-◌, Bool, true, false, List, [], ◌∷◌, leb, ltb, eqb, get_or, take, drop, Option, Some, None, Ok}
 use Rattle.units.specs.Numbers.{pick, both}
 use Rattle.sheet.specs.declared.Phase.{Phase}
 use Rattle.sheet.specs.declared.Point.{Point}
-use Rattle.sheet.specs.declared.Answer.{Answer}
-use Rattle.sheet.specs.declared.Answer.TheVariants.{Fine}
+use Rattle.sheet.specs.Refusals.{Answer, or_else, unless}
 use Rattle.sheet.specs.declared.Refusal.TheVariants.{OutOfRange, PhasesDontRise, PointsDontRise, PedestriansInModeZero, ClearanceTooShort}
-use Rattle.sheet.specs.Refusals.{or_else, unless}
 use Rattle.sheet.specs.Zero.{zero_phase}
-use Rattle.rows.specs.Table.{list, kind_of, form_of, width_of, place_of, used_ranges, in_ranges, present, phase_kind, point_kind, first_phase, first_point, row_count}
+use Rattle.rows.specs.Table.{is_list, kind_of, form_of, width_of, place_of, used_ranges, in_ranges, present, phase_kind, point_kind, first_phase, first_point, row_count}
 use Rattle.numbers.specs.Flat.{phase_at, point_at}
 
 -- 5: "mode 0 with walk or clearance above 0"
@@ -32,6 +30,11 @@ starts_at_zero p = both (eqb p.feet 0) (eqb p.tenths 0)
 unfoldable pub point_rises : Point → Point → Bool
 point_rises before p = both (ltb before.feet p.feet) (leb before.tenths p.tenths)
 
+-- the point p after the one before it; the first has none
+unfoldable pub point_follows : Option Point → Point → Bool
+point_follows None p = starts_at_zero p
+point_follows (Some before) p = point_rises before p
+
 -- the first phase comes after the zero phase, whose number is 0
 unfoldable pub before_phase : List ℕ → ℕ → Phase
 before_phase v i = pick (eqb i 0) zero_phase (phase_at v (i - 1))
@@ -53,7 +56,7 @@ unfoldable pub rule_fault : List ℕ → ℕ → ℕ → Answer
 rule_fault v row line =
     pick (eqb (kind_of row) phase_kind) (phase_fault (before_phase v (row - first_phase)) (phase_at v (row - first_phase)) line)
     (pick (eqb (kind_of row) point_kind) (unless (point_fits v (row - first_point)) PointsDontRise line)
-    (pick (eqb (form_of row) list) (unless (rises_after 0 (list_at v row)) PhasesDontRise line) Fine))
+    (pick (is_list (form_of row)) (unless (rises_after 0 (list_at v row)) PhasesDontRise line) (Ok tt)))
 
 -- a row of the numbers v, on that line of the text. 2: "a value is out of range"
 unfoldable pub row_fault : List ℕ → ℕ → ℕ → Answer
@@ -62,14 +65,14 @@ row_fault v row line =
 
 -- a row that the text has is a line of it; one past its count is none, and has no fault
 unfoldable pub here_fault : List ℕ → ℕ → ℕ → Answer
-here_fault v row line = pick (present v row) (row_fault v row line) Fine
+here_fault v row line = pick (present v row) (row_fault v row line) (Ok tt)
 
 unfoldable pub line_after : List ℕ → ℕ → ℕ → ℕ
 line_after v row line = pick (present v row) (line + 1) line
 
 -- the first fault of n rows from `row` on, with the next line of the text
 unfoldable pub fault_from : List ℕ → ℕ → ℕ → ℕ → Answer
-fault_from v zero row line = Fine
+fault_from v zero row line = Ok tt
 fault_from v (suc n) row line = or_else (here_fault v row line) (fault_from v n (row + 1) (line_after v row line))
 
 abbrev pub lines_fault : List ℕ → Answer

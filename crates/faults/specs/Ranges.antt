@@ -1,10 +1,9 @@
 -- What an accepted sheet keeps, and that a sheet which keeps it is accepted.
-use Rattle.std.specs.Prelude.{ℕ, ◌+◌, ◌≤◌, ◌<◌, ◌≡◌, true, get_or}
+use Rattle.std.specs.Prelude.{ℕ, ◌+◌, ◌≤◌, ◌<◌, ◌≡◌, true, get_or, Ok}
 use Rattle.units.specs.Lists.{All}
 use Rattle.sheet.specs.declared.Phase.{Phase}
 use Rattle.sheet.specs.declared.Point.{Point}
 use Rattle.sheet.specs.declared.Sheet.{Sheet}
-use Rattle.sheet.specs.declared.Answer.TheVariants.{Fine}
 use Rattle.sheet.specs.Entries.{Shaped, listed_phases, listed_points, dwell_numbers, named, nth_phase, nth_point}
 use Rattle.transfer.specs.Promises.{WithinSixteen}
 use Rattle.numbers.specs.Flat.{grade_number}
@@ -75,11 +74,11 @@ pub record Sound (s : Sheet) : Type 0 where
 
 -- an accepted sheet keeps all of this
 abbrev pub AcceptedIsSound : Type 0
-AcceptedIsSound = (s : Sheet) → accept_of s ≡ Fine → Sound s
+AcceptedIsSound = (s : Sheet) → accept_of s ≡ Ok tt → Sound s
 
 -- and a sheet that keeps it is accepted
 abbrev pub SoundIsAccepted : Type 0
-SoundIsAccepted = (s : Sheet) → Shaped s → Sound s → accept_of s ≡ Fine
+SoundIsAccepted = (s : Sheet) → Shaped s → Sound s → accept_of s ≡ Ok tt
 
 -- so one of 2 to 10 or 12 is "given exactly when" it does not
 abbrev pub AcceptedWhenSound : Type 0

@@ -3,9 +3,8 @@ use Rattle.std.specs.Prelude.{ℕ, ◌+◌, ◌-◌, ◌*◌, Bool, true, false,
 use Rattle.units.specs.Numbers.{pick, up}
 use Rattle.sheet.specs.declared.Phase.{Phase}
 use Rattle.sheet.specs.declared.Sheet.{Sheet}
-use Rattle.sheet.specs.declared.Answer.{Answer}
+use Rattle.sheet.specs.Refusals.{Answer, or_else, unless}
 use Rattle.sheet.specs.declared.Refusal.TheVariants.{RelocationBeyondStorage, WarningTooShort, RelocationTooFar, TrackLongerThanTransfer, DwellPhaseNotListed}
-use Rattle.sheet.specs.Refusals.{or_else, unless}
 use Rattle.sheet.specs.Entries.{listed_phases, dwell_numbers, nth_point}
 use Rattle.transfer.specs.Transfer.{track_fits}
 use Rattle.numbers.specs.Flat.{flat_of}

@@ -1,8 +1,7 @@
 -- The order of the loader's refusals.
 use Rattle.std.specs.Prelude.{ℕ, Bool, ltb}
-use Rattle.sheet.specs.declared.Answer.{Answer}
+use Rattle.sheet.specs.Refusals.{Answer, or_else, unless}
 use Rattle.sheet.specs.declared.Refusal.TheVariants.{UnitUnfit, LoadNotNow, IssueNotNewer}
-use Rattle.sheet.specs.Refusals.{or_else, unless}
 
 -- "issue not above the one held" is refused
 abbrev pub newer : ℕ → ℕ → Bool

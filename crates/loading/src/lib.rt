@@ -4,22 +4,24 @@
 ghost use Rattle.std.specs.Prelude.{◌≡◌};
 ghost use Rattle.loading.specs.Loading.{place_by, answer_by};
 
+use answers::refuse_unless;
 use sheet::{Answer, Refusal};
 
 // 21, then 22.
+#[tactic(auto, unfolding(sheet::specs::Refusals::or_else))]
 pub fn place_answer(rests: bool, held: u32, offered: u32) -> Answer
     ensures { result ≡ place_by rests held offered }
 {
-    let place = answers::refuse_unless(rests, Refusal::LoadNotNow, 0);
-    let issue = answers::refuse_unless(held < offered, Refusal::IssueNotNewer, 0);
-    answers::or_else(place, issue)
+    refuse_unless(rests, Refusal::LoadNotNow, 0)?;
+    refuse_unless(held < offered, Refusal::IssueNotNewer, 0)
 }
 
 // 20, then the sheet's own, then 21 and 22.
+#[tactic(auto, unfolding(sheet::specs::Refusals::or_else))]
 pub fn load_answer(fits: bool, own: Answer, place: Answer) -> Answer
     ensures { result ≡ answer_by fits own place }
 {
-    let unfit = answers::refuse_unless(fits, Refusal::UnitUnfit, 0);
-    let later = answers::or_else(own, place);
-    answers::or_else(unfit, later)
+    refuse_unless(fits, Refusal::UnitUnfit, 0)?;
+    own?;
+    place
 }

@@ -11,23 +11,28 @@ use units::Tenths;
 fn vehicle_time(phase: Phase) -> Tenths
     ensures { result ≡ vehicle_time phase }
 {
-    Tenths(phase.green as u64 + phase.other as u64 + phase.yellow as u64 + phase.red as u64)
+    Tenths(
+        u64::from(phase.green)
+            + u64::from(phase.other)
+            + u64::from(phase.yellow)
+            + u64::from(phase.red),
+    )
 }
 
+#[tactic(auto, unfolding(transfer::specs::Transfer::pedestrian_time, units::specs::Numbers::pick))]
 fn pedestrian_time(phase: Phase) -> Tenths
     ensures { result ≡ pedestrian_time phase }
 {
-    let own = phase.walk as u64 + phase.clearance as u64;
-    if phase.mode == 0 {
-        return Tenths(0);
-    }
-    if phase.mode == 1 {
-        return Tenths(own + phase.yellow as u64 + phase.red as u64);
-    }
-    Tenths(own)
+    let own = u64::from(phase.walk) + u64::from(phase.clearance);
+    Tenths(match phase.mode {
+        0 => 0,
+        1 => own + u64::from(phase.yellow) + u64::from(phase.red),
+        _ => own,
+    })
 }
 
 // How long a phase keeps its vehicles, or its pedestrians, once it is asked to end.
+#[tactic(auto, unfolding(transfer::specs::Transfer::time_of))]
 pub fn time(of: Users, phase: Phase) -> Tenths
     ensures { result ≡ time_of of phase }
 {

@@ -1,17 +1,19 @@
 // What is wrong with one row of the numbers: refusals 2 to 6, the lowest first.
 #![tactic(auto)]
 
-ghost use Rattle.std.specs.Prelude.{◌≡◌, ◌-◌, eqb};
+ghost use Rattle.std.specs.Prelude.{◌≡◌, ◌-◌, Ok};
 ghost use Rattle.units.specs.Numbers.{pick};
-ghost use Rattle.sheet.specs.declared.Answer.TheVariants.{Fine};
 ghost use Rattle.sheet.specs.declared.Refusal.TheVariants.{PhasesDontRise};
 ghost use Rattle.sheet.specs.Refusals.{unless};
-ghost use Rattle.rows.specs.Table.{list, form_of};
+ghost use Rattle.rows.specs.Table.{list, is_list, form_of};
 ghost use Rattle.faults.specs.Lines.{before_phase, point_fits, list_at, rises_after, rule_fault, row_fault};
 
+use answers::refuse_unless;
+use rows::{FIRST_PHASE, FIRST_POINT, Form, NUMBERS, PHASE_KIND, POINT_KIND};
 use sheet::{Answer, Phase, Refusal};
 
-fn before_phase(numbers: &[u32; rows::NUMBERS], i: usize) -> Phase
+#[tactic(auto, unfolding(faults::specs::Lines::before_phase, units::specs::Numbers::pick))]
+fn before_phase(numbers: &[u32; NUMBERS], i: usize) -> Phase
     ensures { result ≡ before_phase numbers.now i }
 {
     if i == 0 {
@@ -21,67 +23,60 @@ fn before_phase(numbers: &[u32; rows::NUMBERS], i: usize) -> Phase
     }
 }
 
-// How far a row stands after the first of its kind.
-fn after(row: usize, first: usize) -> usize
-    ensures { result ≡ row - first }
-{
-    if first < row { row - first } else { 0 }
-}
-
-fn point_fits(numbers: &[u32; rows::NUMBERS], i: usize) -> bool
+#[tactic(auto, unfolding(faults::specs::Lines::point_fits, faults::specs::Lines::point_follows, units::specs::Numbers::pick))]
+fn point_fits(numbers: &[u32; NUMBERS], i: usize) -> bool
     ensures { result ≡ point_fits numbers.now i }
 {
-    let before = entries::point_at(numbers, after(i, 1));
-    entry_rules::point_fits(i, before, entries::point_at(numbers, i))
+    let p = entries::point_at(numbers, i);
+    if i == 0 {
+        return entry_rules::point_fits(None, p);
+    }
+    entry_rules::point_fits(Some(entries::point_at(numbers, i - 1)), p)
 }
 
-// The numbers of a row that is a list rise. They are taken by value, since what is lent does not tell its length.
-fn list_rises(numbers: [u32; rows::NUMBERS], row: usize) -> bool
+// The numbers of a row that is a list rise.
+fn list_rises(numbers: &[u32; NUMBERS], row: usize) -> bool
     requires { form_of row ≡ list }
-    ensures { result ≡ rises_after 0 (list_at numbers row) }
+    ensures { result ≡ rises_after 0 (list_at numbers.now row) }
 {
     let at = places::place(row);
-    let list = entries::list_at(&numbers, row);
-    entry_rules::rises(list, numbers[at])
+    let list = entries::list_at(numbers, row);
+    entry_rules::rises(sheet::counted(&list, numbers[at]))
 }
 
-fn list_fault(numbers: &[u32; rows::NUMBERS], row: usize, line: u32) -> Answer
-    ensures { result ≡ pick (eqb (form_of row) list) (unless (rises_after 0 (list_at numbers.now row)) PhasesDontRise line) Fine }
+#[tactic(auto, unfolding(rows::specs::Facts::facts_of, units::specs::Numbers::pick))]
+fn list_fault(numbers: &[u32; NUMBERS], row: usize, line: u32) -> Answer
+    ensures { result ≡ pick (is_list (form_of row)) (unless (rises_after 0 (list_at numbers.now row)) PhasesDontRise line) (Ok tt) }
 {
-    let key = rows::facts(row);
-    if key.2 == rows::LIST {
-        return answers::refuse_unless(list_rises(*numbers, row), Refusal::PhasesDontRise, line);
+    match rows::facts(row).form {
+        Form::Listed => refuse_unless(list_rises(numbers, row), Refusal::PhasesDontRise, line),
+        Form::Plain | Form::Worded | Form::Signed => Ok(()),
     }
-    Answer::Fine
 }
 
-fn rule_fault(numbers: &[u32; rows::NUMBERS], row: usize, line: u32) -> Answer
+#[tactic(auto, unfolding(faults::specs::Lines::rule_fault, units::specs::Numbers::pick))]
+fn rule_fault(numbers: &[u32; NUMBERS], row: usize, line: u32) -> Answer
     ensures { result ≡ rule_fault numbers.now row line }
 {
-    let kind = places::kind(row);
-    if kind == rows::PHASE_KIND {
-        let i = after(row, rows::FIRST_PHASE);
-        return entry_rules::phase_fault(
-            before_phase(numbers, i),
-            entries::phase_at(numbers, i),
-            line,
-        );
+    match places::kind(row) {
+        PHASE_KIND => {
+            let i = row.saturating_sub(FIRST_PHASE);
+            let before = before_phase(numbers, i);
+            entry_rules::phase_fault(before, entries::phase_at(numbers, i), line)
+        }
+        POINT_KIND => {
+            let fits = point_fits(numbers, row.saturating_sub(FIRST_POINT));
+            refuse_unless(fits, Refusal::PointsDontRise, line)
+        }
+        _ => list_fault(numbers, row, line),
     }
-    if kind == rows::POINT_KIND {
-        return answers::refuse_unless(
-            point_fits(numbers, after(row, rows::FIRST_POINT)),
-            Refusal::PointsDontRise,
-            line,
-        );
-    }
-    list_fault(numbers, row, line)
 }
 
 // The fault of a row of the numbers, on that line of the text.
-pub fn row_fault(numbers: &[u32; rows::NUMBERS], row: usize, line: u32) -> Answer
+#[tactic(auto, unfolding(faults::specs::Lines::row_fault, sheet::specs::Refusals::or_else))]
+pub fn row_fault(numbers: &[u32; NUMBERS], row: usize, line: u32) -> Answer
     ensures { result ≡ row_fault numbers.now row line }
 {
-    let inside = ranges::in_ranges(numbers, row);
-    let ranges = answers::refuse_unless(inside, Refusal::OutOfRange, line);
-    answers::or_else(ranges, rule_fault(numbers, row, line))
+    refuse_unless(ranges::in_ranges(numbers, row), Refusal::OutOfRange, line)?;
+    rule_fault(numbers, row, line)
 }

@@ -1,5 +1,5 @@
 -- The right-of-way transfer, lines 4 to 16, over the listed phases.
-use Rattle.std.specs.Prelude.{ℕ, ◌+◌, max, Bool, List, [], ◌∷◌, eqb, leb, ltb}
+use Rattle.std.specs.Prelude.{ℕ, ◌+◌, max, Bool, List, fold, eqb, leb, ltb}
 use Rattle.units.specs.declared.Tenths.{Tenths}
 use Rattle.units.specs.Numbers.{pick, tenths}
 use Rattle.sheet.specs.declared.Phase.{Phase}
@@ -26,8 +26,7 @@ unfoldable pub worse_of : Users → Phase → Phase → Phase
 worse_of of p q = pick (ltb (time_of of p).0 (time_of of q).0) q p
 
 unfoldable pub worst_from : Users → Phase → List Phase → Phase
-worst_from of p [] = p
-worst_from of p (q ∷ qs) = worst_from of (worse_of of p q) qs
+worst_from of p ps = fold (worse_of of) p ps
 
 -- "Lines 4 to 9 show the phase with the largest vehicle time, 10 to 15 the phase with the largest pedestrian time among modes 1 and 2;
 -- on a tie the lowest number. If all are mode 0, 10 to 15 are 0."

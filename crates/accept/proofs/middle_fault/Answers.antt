@@ -1,27 +1,15 @@
 -- `accept::middle_fault` meets its contract: the track, the list for dwell, then the rows of one number. Assumes nothing.
-use Rattle.numbers.specs.Flat.{flat_of, numbers_from}
-use Rattle.faults.proofs.Values.{middle_values}
-use native.Mathlib.Omega.{arith}
+use mathlib.Core.Path.{sym, ap, ◌∙◌}
+use Rattle.sheet.specs.declared.Refusal.TheVariants.{OutOfRange}
+use Rattle.sheet.specs.Refusals.{or_else, unless}
+use Rattle.faults.specs.Dwell.{dwell_line}
+use Rattle.accept.proofs.Stretches.{middle_rows}
 use Rattle.accept.proofs.middle_fault.Goals as goal
 
-pub line_of-line-requires : goal.line_of-line-requires
-line_of-line-requires c =
-    (omega arith, omega (arith, c.requires))
-
-pub line_of-requires : goal.line_of-requires
-line_of-requires c =
-    (omega arith, omega (arith, c.requires))
-
 pub returns : goal.returns
-unfolding flat_of numbers_from
+unfolding or_else
 returns c =
-    rw (
-      c.or_else-2.ensures,
-      c.or_else.ensures,
-      c.singles_fault.ensures,
-      c.dwell_fault-dwell.ensures,
-      c.line_of.ensures,
-      c.refuse_unless-track.ensures,
-      c.track_in.ensures,
-      c.line_of-line.ensures,
-    ) (middle_values c.args.s c.args.absent c.requires)
+    let s = c.args.s in
+    let track = sym (c.refuse_unless.ensures ∙ λ i. unless (c.row_fits-track.ensures i) OutOfRange (c.line_of.ensures i)) ∙ c.in_ok-refuse_unless.was in
+    let dwell = sym (c.dwell_fault.ensures ∙ ap (dwell_line s.dwell_count s.dwell) c.line_of-2.ensures) ∙ c.in_ok-dwell_fault.was in
+    c.singles_fault.ensures ∙ sym (rw (track, dwell) at (middle_rows s c.args.absent c.requires))

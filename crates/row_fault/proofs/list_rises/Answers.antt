@@ -1,5 +1,5 @@
 -- `row_fault::list_rises` meets its contract: a list's numbers are those after its count. Assumes nothing.
-use mathlib.Core.Path.{◌≡◌, sym, ◌∙◌}
+use mathlib.Core.Path.{◌≡◌, ap, sym, ◌∙◌}
 use mathlib.Core.List.{List}
 use Prim.Native.Nat.{ℕ, ◌+◌, ◌-◌}
 use native.Mathlib.Omega.{arith}
@@ -31,8 +31,8 @@ bounds-numbers-at c =
 
 pub returns : goal.returns
 returns c =
-    let v = c.args.numbers in
+    let v = c.args.numbers.now in
     let row = c.args.row in
     let l : length v ≡ number_count = search rules in
     let numbers = c.list_at-list.ensures ∙ numbers_of v row c.requires l in
-    c.rises.ensures ∙ λ i. rises_after 0 (take (get_or v (c.place-at.ensures i) 0) (numbers i))
+    c.rises.ensures ∙ ap (rises_after 0) c.counted.ensures ∙ λ i. rises_after 0 (take (get_or v (c.place-at.ensures i) 0) (numbers i))

@@ -1,14 +1,12 @@
 -- `whole_fault::warned` meets its contract: ten for each ten feet or part. Assumes nothing.
-use mathlib.Core.Path.{refl}
-use Prim.Native.Nat.{◌-◌}
-use native.Mathlib.Omega.{arith}
-use Rattle.units.proofs.Rounding.{up_le_self}
+use Rattle.std.proofs.Common.{◌≡◌, ℕ, arith, refl}
+use Rattle.std.specs.Int.{div_ceil}
+use Rattle.units.specs.Numbers.{up}
 use Rattle.whole_fault.proofs.warned.Goals as goal
 
-pub overflow_mul-result : goal.overflow_mul-result
-overflow_mul-result c =
-    omega (arith, c.div_up-tens.ensures, c.less.ensures, up_le_self c.less.result 10)
+tens : (n : ℕ) → div_ceil n 10 ≡ up n 10
+unfolding up
+tens n = omega arith
 
 pub returns : goal.returns
-returns c =
-    rw (c.div_up-tens.ensures, c.less.ensures) refl
+returns c = rw (c.from.ensures, c.from-2.ensures, c.div_ceil-tens.ensures, c.saturating_sub.ensures, tens) refl
