@@ -1,7 +1,7 @@
 // The acceleration time: to 400 ft the level time by the points, times the factor; from 425 ft the far time; between them straight from the one to the other.
 #![tactic(auto)]
 
-ghost use Rattle.std.specs.Prelude.{◌≡◌, ◌≤◌, take};
+ghost use Rattle.std.specs.Prelude.{◌≡◌, ◌≤◌};
 ghost use Rattle.curve.specs.Curve.{acceleration_of, between_of, curve_time_of, graded_of, joined_of, level_of};
 
 use scale::Fraction;
@@ -13,31 +13,28 @@ fn between(p: Point, q: Point, distance: Feet) -> Tenths
     requires { distance.0 ≤ q.feet }
     ensures { (result ≡ between_of p q distance) × (result.0 ≤ 4294967295) }
 {
-    let rise = units::less(q.tenths as u64, p.tenths as u64);
-    let run = units::less(distance.0, p.feet as u64);
-    let width = units::less(q.feet as u64, p.feet as u64);
-    let part = units::div_up(rise * run, width);
-    Tenths(p.tenths as u64 + part)
+    let rise = q.tenths.saturating_sub(p.tenths);
+    let run = distance.0.saturating_sub(u64::from(p.feet));
+    let width = q.feet.saturating_sub(p.feet);
+    let part = units::div_up(u64::from(rise) * run, u64::from(width));
+    Tenths(u64::from(p.tenths) + part)
 }
 
 // The level time, by the two points around the distance; a point's time has 32 bits, and so has this.
-fn level_time(points: [Point; 16], count: u32, distance: Feet) -> Tenths
-    ensures { (result ≡ level_of (take count points) distance) × (result.0 ≤ 4294967295) }
+fn level_time(points: &[Point], distance: Feet) -> Tenths
+    ensures { (result ≡ level_of points.now distance) × (result.0 ≤ 4294967295) }
 {
-    let n = units::smaller(count as u64, 16) as usize;
-    if n == 0 {
+    let Some((&first, rest)) = points.split_first() else {
         return Tenths(0);
-    }
-    let mut p = points[0];
-    let mut i: usize = 1;
-    while i < n {
-        let q = points[i];
-        if distance.0 <= q.feet as u64 {
+    };
+    let mut p = first;
+    for &q in rest {
+        if distance.0 <= u64::from(q.feet) {
             return between(p, q, distance);
         }
         p = q;
-        i += 1;
     }
+    // A cast, since `u64::from` doesn't tell the proof that the number had 32 bits.
     Tenths(p.tenths as u64)
 }
 
@@ -49,11 +46,11 @@ fn graded(factor: Fraction, time: Tenths) -> Tenths
     Tenths(units::div_up(time.0 * factor.over, factor.under))
 }
 
-// By the sheet's points alone: the level time on the grade.
-fn by_curve(points: [Point; 16], count: u32, vehicle: Vehicle, grade: i16, distance: Feet) -> Tenths
-    ensures { (result ≡ curve_time_of (take count points) vehicle grade distance) × (result.0 ≤ 8589934590) }
+// By the sheet's points alone: the level time on the grade. A vehicle, its grade and a distance go together here and below, and stay apart for all that: the definitions take them so, and the distance alone changes, to 400 or 425 ft.
+fn by_curve(points: &[Point], vehicle: Vehicle, grade: i16, distance: Feet) -> Tenths
+    ensures { (result ≡ curve_time_of points.now vehicle grade distance) × (result.0 ≤ 8589934590) }
 {
-    let time = level_time(points, count, distance);
+    let time = level_time(points, distance);
     graded(grade_factor::factor(vehicle, grade, distance), time)
 }
 
@@ -68,20 +65,14 @@ fn joined(start: Tenths, end: Fraction, distance: Feet) -> Tenths
 }
 
 // The time to accelerate over a distance, on a grade.
-pub fn acceleration(
-    points: [Point; 16],
-    count: u32,
-    vehicle: Vehicle,
-    grade: i16,
-    distance: Feet,
-) -> Tenths
-    ensures { result ≡ acceleration_of (take count points) vehicle grade distance }
+pub fn acceleration(points: &[Point], vehicle: Vehicle, grade: i16, distance: Feet) -> Tenths
+    ensures { result ≡ acceleration_of points.now vehicle grade distance }
 {
     if distance.0 <= 400 {
-        return by_curve(points, count, vehicle, grade, distance);
+        return by_curve(points, vehicle, grade, distance);
     }
     if distance.0 < 425 {
-        let at_400 = by_curve(points, count, vehicle, grade, Feet(400));
+        let at_400 = by_curve(points, vehicle, grade, Feet(400));
         let at_425 = far_time::far(vehicle, grade, Feet(425));
         return joined(at_400, at_425, distance);
     }

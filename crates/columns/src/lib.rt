@@ -28,7 +28,7 @@ const TABLE: [[u8; 14]; 16] = [
     [00, 15, 32, 50, 00, 06, 23, 40, 57, 00, 15, 40, 63, 85], // 400 ft
 ];
 
-// What the table has at a column and a row; 0 outside it.
+// What the table has at a column and a row; 0 outside it. The bounds stand as tests, and not in `TABLE.get(row)`: that was tried, and what `get` gives of a row of rows stayed open.
 pub fn entry(col: usize, row: usize) -> Hundredths
     ensures { result ≡ hundredths (entry_of row col) }
 {
@@ -38,5 +38,5 @@ pub fn entry(col: usize, row: usize) -> Hundredths
     if 16 <= row {
         return Hundredths(0); // past the last row
     }
-    Hundredths(100 + TABLE[row][col] as u64)
+    Hundredths(100 + u64::from(TABLE[row][col]))
 }

@@ -9,7 +9,7 @@ use lib.Dec.{leb}
 use lib.IntN.{ℤ, pos}
 use lib.Signed.{lt_z}
 use borrow.Author.Tests.{leb-true, le-leb, lt-leb, le-ltb}
-use Rattle.units.specs.Numbers.{up, TakenUp, pick, feet, tenths}
+use Rattle.units.specs.Numbers.{up, TakenUp, pick, tenths}
 use Rattle.units.specs.declared.Feet.{Feet}
 use Rattle.units.specs.declared.Tenths.{Tenths}
 use Rattle.units.proofs.Rounding.{up_part, up_le, up_enough, up_least, up_taken, up_product}

@@ -32,7 +32,7 @@ fn example(grade: i16) -> Sheet {
     Sheet {
         issue: 1,
         vehicle: Vehicle::Wb50,
-        grade: grade,
+        grade,
         grade2: grade,
         l01: 0,
         l02: 2,

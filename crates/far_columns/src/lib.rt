@@ -155,7 +155,7 @@ const FAR: [[[u16; 5]; 3]; 24] = [
     ],
 ];
 
-// What the table has at a column and a row; 0 outside it.
+// What the table has at a column and a row; 0 outside it. The bounds stand as tests, and not in `FAR.get(row)`: that was tried, and what `get` gives of a row of rows stayed open.
 pub fn entry(col: usize, row: usize) -> Tenths
     ensures { result ≡ tenths (far_entry_of row col) }
 {
@@ -165,5 +165,5 @@ pub fn entry(col: usize, row: usize) -> Tenths
     if 24 <= row {
         return Tenths(0); // past the last row
     }
-    Tenths(FAR[row][col / 5][col % 5] as u64)
+    Tenths(u64::from(FAR[row][col / 5][col % 5]))
 }

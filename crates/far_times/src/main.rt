@@ -4,20 +4,16 @@
 use std::io;
 
 fn print_row(rt: &impl Print, row: usize) -> io::Result<()> {
-    let mut col: usize = 0;
-    while col < 15 {
+    for col in 0..15 {
         print!(rt; " {}", far_columns::entry(col, row).0)?;
-        col += 1;
     }
     println!(rt)
 }
 
 fn print_rows(rt: &impl Print) -> io::Result<()> {
-    let mut row: usize = 0;
-    while row < 24 {
-        print!(rt; "{}", 425 + 25 * row as u64)?;
+    for row in 0..24 {
+        print!(rt; "{}", 425 + 25 * row)?;
         print_row(rt, row)?;
-        row += 1;
     }
     Ok(())
 }

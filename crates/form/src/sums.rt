@@ -7,22 +7,23 @@ ghost use Rattle.lines.specs.Lines.{acceleration};
 use sheet::Sheet;
 use units::{Feet, Hundredths, Tenths};
 
+// One maker for each unit and one sum for each that is added: they differ in the unit alone, and a trait over the units would need as many `impl`s as there are functions here.
 pub(crate) fn time(x: u32) -> Tenths
     ensures { result ≡ tenths x }
 {
-    Tenths(x as u64)
+    Tenths(u64::from(x))
 }
 
 pub(crate) fn distance(x: u32) -> Feet
     ensures { result ≡ feet x }
 {
-    Feet(x as u64)
+    Feet(u64::from(x))
 }
 
 pub(crate) fn multiplier(x: u32) -> Hundredths
     ensures { result ≡ hundredths x }
 {
-    Hundredths(x as u64)
+    Hundredths(u64::from(x))
 }
 
 pub(crate) fn plus(a: Tenths, b: Tenths) -> Tenths
@@ -42,7 +43,7 @@ pub(crate) fn along(a: Feet, b: Feet) -> Feet
 pub(crate) fn less(a: Tenths, b: Tenths) -> Tenths
     ensures { result ≡ a less b }
 {
-    Tenths(units::less(a.0, b.0))
+    Tenths(a.0.saturating_sub(b.0))
 }
 
 // A time as a number of 32 bits.
@@ -57,7 +58,5 @@ pub(crate) fn number(t: Tenths) -> u32
 pub(crate) fn acceleration(s: Sheet, grade: i16, d: Feet) -> Tenths
     ensures { result ≡ acceleration s grade d }
 {
-    let points = s.points;
-    let vehicle = s.vehicle;
-    acceleration::acceleration(points, s.point_count, vehicle, grade, d)
+    acceleration::acceleration(s.listed_points(), s.vehicle, grade, d)
 }

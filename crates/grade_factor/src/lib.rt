@@ -3,12 +3,38 @@
 
 ghost use Rattle.std.specs.Prelude.{◌≡◌, min};
 ghost use Rattle.table.specs.Table.{entry_of};
-ghost use Rattle.scale.specs.Scale.{Standing};
-ghost use Rattle.factor.specs.Factor.{factor_of, one, row_of, table_of};
+ghost use Rattle.scale.specs.Scale.{climb, column_of};
+ghost use Rattle.factor.specs.Factor.{factor_of, one};
 
 use scale::{Fraction, Place};
+use scaled::Printed;
 use sheet::Vehicle;
 use units::Feet;
+
+// Table 628-B, in hundredths: rows every 25 ft from 25 to 400; below 25 ft row 25.
+struct Factors;
+
+impl Printed for Factors {
+    ghost entries = { entry_of };
+
+    ghost columns = { λ v g. column_of v (min (climb g) 80) };
+
+    ghost FIRST = { 25 };
+
+    ghost LAST = { 400 };
+
+    const FIRST: u64 = 25;
+
+    const LAST: u64 = 400;
+
+    fn entry(col: usize, row: usize) -> u16 {
+        columns::entry(col, row).0 as u16
+    }
+
+    fn column(vehicle: Vehicle, grade: i16) -> Place {
+        scaled::column(vehicle, scaled::uphill(grade))
+    }
+}
 
 // The factor 1.
 fn one_to_one() -> Fraction
@@ -17,49 +43,15 @@ fn one_to_one() -> Fraction
     Fraction { over: 1, under: 1 }
 }
 
-// Rows every 25 ft from 25 to 400; below 25 ft row 25.
-fn row(distance: Feet) -> Place
-    ensures { result ≡ row_of (min distance.0 400) }
-{
-    let d = units::smaller(distance.0, 400);
-    scaled::every_25(units::less(d, 25))
-}
-
-// An entry of the table, in hundredths.
-fn entry(col: usize, row: usize) -> u16
-    ensures { result ≡ entry_of row col }
-{
-    columns::entry(col, row).0 as u16
-}
-
-// Between two columns of the table and two rows.
-fn by_table(c: Place, r: Place) -> Fraction
-    requires { Standing 20 14 c × Standing 25 16 r }
-    ensures { result ≡ table_of c r }
-{
-    let over = scaled::spread(
-        entry(c.step, r.step),
-        entry(c.step + 1, r.step),
-        entry(c.step, r.step + 1),
-        entry(c.step + 1, r.step + 1),
-        c,
-        r,
-    );
-    Fraction {
-        over: over,
-        under: 100 * (c.width as u64 * r.width as u64),
-    }
-}
-
 pub fn factor(vehicle: Vehicle, grade: i16, distance: Feet) -> Fraction
     ensures { result ≡ factor_of vehicle grade distance }
 {
-    if scaled::is_car(vehicle) {
+    if scaled::is_car(vehicle) || scaled::uphill(grade) < 10 {
         return one_to_one();
     }
-    let g = scaled::uphill(grade);
-    if g < 10 {
-        return one_to_one();
+    let Fraction { over, under } = scaled::read::<Factors>(vehicle, grade, distance);
+    Fraction {
+        over,
+        under: 100 * under,
     }
-    by_table(scaled::column(vehicle, g), row(distance))
 }

@@ -12,7 +12,7 @@ use Rattle.units.specs.declared.Tenths.{Tenths}
 use Rattle.sheet.specs.declared.Sheet.{Sheet}
 use Rattle.sheet.specs.declared.Phase.{Phase}
 use Rattle.sheet.specs.declared.Point.{Point}
-use Rattle.sheet.specs.declared.Answer.TheVariants.{Fine}
+use Rattle.std.specs.Prelude.{Ok}
 use Rattle.transfer.specs.Promises.{Bounded}
 use Rattle.transfer.proofs.Promised.{at_most}
 use Rattle.faults.specs.Whole.{accept_of}
@@ -83,7 +83,7 @@ bounds_of s h =
       l59 = omega (arith, share, div-le_self (s.l57 * s.l58) 100);
     }
 
-pub bounds : (s : Sheet) → accept_of s ≡ Fine → Bounds s
+pub bounds : (s : Sheet) → accept_of s ≡ Ok tt → Bounds s
 bounds s e = bounds_of s (sound s e)
 
 -- what equals a small line is small

@@ -6,7 +6,7 @@ use Rattle.units.specs.Numbers.{pick}
 use Rattle.units.specs.declared.Feet.{Feet}
 use Rattle.sheet.specs.declared.Sheet.{Sheet}
 use Rattle.sheet.specs.declared.Vehicle.TheVariants.{Car}
-use Rattle.sheet.specs.declared.Answer.TheVariants.{Fine}
+use Rattle.std.specs.Prelude.{Ok}
 use Rattle.sheet.specs.Entries.{Shaped}
 use Rattle.numbers.specs.Flat.{grade_number}
 use Rattle.faults.specs.Whole.{accept_of}
@@ -63,7 +63,7 @@ still_sound s g h range =
       dwell_listed = h.dwell_listed;
     }
 
-still_accepted : (s : Sheet) (g : ℤ) → Shaped s → accept_of s ≡ Fine → Between 999920 (grade_number g) 1000080 → accept_of (with_grade2 s g) ≡ Fine
+still_accepted : (s : Sheet) (g : ℤ) → Shaped s → accept_of s ≡ Ok tt → Between 999920 (grade_number g) 1000080 → accept_of (with_grade2 s g) ≡ Ok tt
 still_accepted s g shaped a range =
     sound_is_accepted (with_grade2 s g) (record { phases = shaped.phases; dwell = shaped.dwell; points = shaped.points }) (still_sound s g (sound s a) range)
 

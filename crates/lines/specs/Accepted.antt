@@ -1,10 +1,9 @@
 -- What the lines of an accepted sheet show of its phases, and that its level times lie between its points.
-use Rattle.std.specs.Prelude.{ℕ, ◌+◌, ◌≤◌, ◌<◌, ◌≡◌, ◌⊎◌}
+use Rattle.std.specs.Prelude.{ℕ, ◌+◌, ◌≤◌, ◌<◌, ◌≡◌, ◌⊎◌, Ok}
 use Rattle.units.specs.declared.Feet.{Feet}
 use Rattle.units.specs.Numbers.{feet, tenths}
 use Rattle.sheet.specs.declared.Sheet.{Sheet}
 use Rattle.sheet.specs.declared.Phase.{Phase}
-use Rattle.sheet.specs.declared.Answer.TheVariants.{Fine}
 use Rattle.sheet.specs.Entries.{Shaped, listed_points, nth_phase, nth_point}
 use Rattle.transfer.specs.declared.Users.{Users}
 use Rattle.transfer.specs.declared.Users.TheVariants.{Vehicles, Pedestrians}
@@ -33,7 +32,7 @@ pub record ShowsVehicles (s : Sheet) (p : Phase) : Type 0 where
 
 -- "Lines 4 to 9 show the phase with the largest vehicle time": always a listed one
 abbrev pub VehicleLines : Type 0
-VehicleLines = (s : Sheet) → Shaped s → accept_of s ≡ Fine → (k : ℕ) × Chosen s Vehicles k × ShowsVehicles s (nth_phase s k)
+VehicleLines = (s : Sheet) → Shaped s → accept_of s ≡ Ok tt → (k : ℕ) × Chosen s Vehicles k × ShowsVehicles s (nth_phase s k)
 
 -- lines 10 to 15 are those of the phase p; "In mode 2, 13 and 14 are 0"
 pub record ShowsPedestrians (s : Sheet) (p : Phase) : Type 0 where
@@ -57,7 +56,7 @@ pub record ShowsNoPedestrians (s : Sheet) : Type 0 where
 -- "10 to 15 the phase with the largest pedestrian time among modes 1 and 2": a listed one of these modes, unless all are mode 0
 abbrev pub PedestrianLines : Type 0
 PedestrianLines =
-    (s : Sheet) → Shaped s → accept_of s ≡ Fine
+    (s : Sheet) → Shaped s → accept_of s ≡ Ok tt
     → ShowsNoPedestrians s
     ⊎ ((k : ℕ) × (1 ≤ (nth_phase s k).mode) × ((nth_phase s k).mode ≤ 2) × Chosen s Pedestrians k × ShowsPedestrians s (nth_phase s k))
 
@@ -70,7 +69,7 @@ pub record Around (s : Sheet) (d : Feet) (i : ℕ) : Type 0 where
 -- "The level time lies on the straight line between the two points around the distance, up to a tenth": on an accepted sheet, always
 abbrev pub LevelBetweenPoints : Type 0
 LevelBetweenPoints =
-    (s : Sheet) (d : Feet) (i : ℕ) → Shaped s → accept_of s ≡ Fine → Around s d i
+    (s : Sheet) (d : Feet) (i : ℕ) → Shaped s → accept_of s ≡ Ok tt → Around s d i
     → OnTheLine (nth_point s i) (nth_point s (i + 1)) d (level_of (listed_points s) d).0
 
 -- to 400 ft a distance has two points around it; past it the curve reaches 400 ft and the far times the distance
@@ -82,5 +81,5 @@ HasTimes s d =
 -- "acceleration times over 23, 48 and 20": an accepted sheet has what each needs, and line 54 has points around it always
 abbrev pub PointsAround : Type 0
 PointsAround =
-    (s : Sheet) → accept_of s ≡ Fine
+    (s : Sheet) → accept_of s ≡ Ok tt
     → ((i : ℕ) × Around s (l20 s) i) × HasTimes s (l23 s) × HasTimes s (l48 s)

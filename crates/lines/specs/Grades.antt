@@ -1,11 +1,10 @@
 -- Request 2026-02, "The grade isn't the same over both distances", beside the definitions: which lines the second grade decides, and that where it is
 -- the first the lines are document 01's.
-use Rattle.std.specs.Prelude.{ℕ, ◌-◌, ◌≡◌, List, [], ◌∷◌, ℤ, take, drop, set}
+use Rattle.std.specs.Prelude.{ℕ, ◌-◌, ◌≡◌, List, [], ◌∷◌, ℤ, take, drop, set, Ok}
 use Rattle.units.specs.declared.Feet.{Feet}
 use Rattle.units.specs.declared.Tenths.{Tenths}
 use Rattle.sheet.specs.declared.Sheet.{Sheet}
 use Rattle.sheet.specs.declared.Vehicle.TheVariants.{Car}
-use Rattle.sheet.specs.declared.Answer.TheVariants.{Fine}
 use Rattle.sheet.specs.Entries.{Shaped}
 use Rattle.numbers.specs.Flat.{grade_number}
 use Rattle.faults.specs.Whole.{accept_of}
@@ -60,8 +59,8 @@ SecondGradeForFortyNine =
 -- what its worksheet shows lines 49, 50 and 51 alone may differ
 abbrev pub AnySecondGrade : Type 0
 AnySecondGrade =
-    (s : Sheet) (g : ℤ) → Shaped s → accept_of s ≡ Fine → Between 999920 (grade_number g) 1000080
-    → (accept_of (with_grade2 s g) ≡ Fine)
+    (s : Sheet) (g : ℤ) → Shaped s → accept_of s ≡ Ok tt → Between 999920 (grade_number g) 1000080
+    → (accept_of (with_grade2 s g) ≡ Ok tt)
     × (take 48 (in_order (worksheet_of (with_grade2 s g)).lines) ≡ take 48 (in_order (worksheet_of s).lines))
     × (drop 51 (in_order (worksheet_of (with_grade2 s g)).lines) ≡ drop 51 (in_order (worksheet_of s).lines))
 

@@ -1,9 +1,8 @@
 -- Request 2026-04, "Long storage, past 400 feet", beside the definitions: which lines are document 01's still, and which are far times.
-use Rattle.std.specs.Prelude.{◌≤◌, ◌≡◌, ℤ, take}
+use Rattle.std.specs.Prelude.{◌≤◌, ◌≡◌, ℤ, take, Ok}
 use Rattle.units.specs.declared.Feet.{Feet}
 use Rattle.units.specs.declared.Tenths.{Tenths}
 use Rattle.sheet.specs.declared.Sheet.{Sheet}
-use Rattle.sheet.specs.declared.Answer.TheVariants.{Fine}
 use Rattle.faults.specs.Whole.{accept_of}
 use Rattle.far.specs.Far.{far_time_of}
 use Rattle.curve.specs.Curve.{curve_time_of}
@@ -19,7 +18,7 @@ AsBeforeToFourHundred =
     (s : Sheet)
     → ((l23 s).0 ≤ 400 → l24 s ≡ by_curve s s.grade (l23 s))
     × ((l48 s).0 ≤ 400 → l49 s ≡ by_curve s s.grade2 (l48 s))
-    × (accept_of s ≡ Fine → l54 s ≡ by_curve s s.grade (l20 s))
+    × (accept_of s ≡ Ok tt → l54 s ≡ by_curve s s.grade (l20 s))
 
 -- from 425 ft on lines 24 and 49 are far times, by their own grades and whatever the points
 abbrev pub FarFromFourTwentyFive : Type 0

@@ -1,9 +1,9 @@
 -- What is promised of the lines, beside the definitions: the roundings said without a quotient, and what the sequence builds on.
-use Rattle.std.specs.Prelude.{ℕ, ◌+◌, ◌*◌, ◌<◌, ◌≤◌, ◌≡◌, T}
+use Rattle.std.specs.Prelude.{ℕ, ◌+◌, ◌*◌, ◌<◌, ◌≤◌, ◌≡◌, T, Ok}
 use Rattle.units.specs.Numbers.{tenths}
 use Rattle.sheet.specs.declared.Sheet.{Sheet}
 use Rattle.sheet.specs.declared.Refusal.{Refusal}
-use Rattle.sheet.specs.declared.Answer.TheVariants.{Fine, Refused}
+use Rattle.sheet.specs.Refusals.{refused}
 use Rattle.faults.specs.Whole.{accept_of}
 use Rattle.lines.specs.Lines.{l03, pedestrian_phase, l13, l14, l17, l21, l22, l25, l28, l29, l33, l34, l35, l36, l37, l38, l40, l44, l50, l51, l53, l54, l57, l58, l59, l60, l61}
 use Rattle.lines.specs.Worksheet.{zero_lines, worksheet_of}
@@ -23,7 +23,7 @@ LongStorage = T (all_right long_cases)
 
 -- "A refused .. worksheet .. gives only zeros beside its number"
 abbrev pub RefusedGivesZeros : Type 0
-RefusedGivesZeros = (s : Sheet) (r : Refusal) (line : ℕ) → accept_of s ≡ Refused r line → worksheet_of s ≡ record { answer = Refused r line; lines = zero_lines }
+RefusedGivesZeros = (s : Sheet) (r : Refusal) (line : ℕ) → accept_of s ≡ refused r line → worksheet_of s ≡ record { answer = refused r line; lines = zero_lines }
 
 -- "In mode 2, 13 and 14 are 0."
 abbrev pub NoneInModeTwo : Type 0
@@ -67,4 +67,4 @@ AdvanceEnough = (s : Sheet) → (l61 s).0 ≤ (l36 s).0 → (l17 s).0 + (l53 s).
 
 -- on an accepted sheet the call is counted for a tick at least, and the green lasts
 abbrev pub Lasting : Type 0
-Lasting = (s : Sheet) → accept_of s ≡ Fine → (1 ≤ (l03 s).0) × (1 ≤ (l51 s).0)
+Lasting = (s : Sheet) → accept_of s ≡ Ok tt → (1 ≤ (l03 s).0) × (1 ≤ (l51 s).0)

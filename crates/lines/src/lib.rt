@@ -5,7 +5,7 @@
 use sheet::Answer;
 use units::{Feet, Hundredths, Tenths};
 
-#[derive(Clone, Copy)]
+#[derive(Clone, Copy, Default)]
 pub struct Lines {
     pub l01: Tenths,
     pub l02: Tenths,
@@ -70,13 +70,14 @@ pub struct Lines {
     pub l61: Tenths,
 }
 
+// The answer to a sheet, and its lines. Not a Result: a refused sheet has its zero lines too, by `RefusedGivesZeros`.
 #[derive(Clone, Copy)]
 pub struct Worked {
     pub answer: Answer,
     pub lines: Lines,
 }
 
-// What the worksheet says to the sequence: the answer, and lines 3 and 51, which it goes by.
+// What the worksheet says to the sequence: the answer, and lines 3 and 51, which it goes by; both 0 of a refused sheet, for the same reason.
 #[derive(Clone, Copy)]
 pub struct Timed {
     pub answer: Answer,

@@ -6,12 +6,6 @@ ghost use Rattle.lines.specs.Worksheet.{in_order};
 
 use lines::Lines;
 
-fn wide(x: u32) -> u64
-    ensures { result ≡ x }
-{
-    x as u64
-}
-
 // The lines as plain numbers, L01 to L61.
 pub fn in_order(l: Lines) -> [u64; 61]
     ensures { result ≡ in_order l }
@@ -20,13 +14,13 @@ pub fn in_order(l: Lines) -> [u64; 61]
         l.l01.0,
         l.l02.0,
         l.l03.0,
-        wide(l.l04),
+        u64::from(l.l04),
         l.l05.0,
         l.l06.0,
         l.l07.0,
         l.l08.0,
         l.l09.0,
-        wide(l.l10),
+        u64::from(l.l10),
         l.l11.0,
         l.l12.0,
         l.l13.0,

@@ -21,7 +21,7 @@ pub fn waited(p: Phase, time: u32) -> Tenths
     ensures { result ≡ waited p time }
 {
     if p.mode == 1 {
-        Tenths(time as u64)
+        Tenths(u64::from(time))
     } else {
         Tenths(0)
     }
@@ -36,18 +36,18 @@ pub fn line22(l21: Feet) -> Tenths
 pub fn line38(l36: u32, l37: u32) -> Tenths
     ensures { result ≡ line38 (tenths l36) (hundredths l37) }
 {
-    Tenths(units::div_up(l36 as u64 * l37 as u64, 100))
+    Tenths(units::div_up(u64::from(l36) * u64::from(l37), 100))
 }
 
 pub fn line51(l44: u32, l50: u32, l25: u32) -> Tenths
     ensures { result ≡ line51 (tenths l44) (tenths l50) (tenths l25) }
 {
-    let largest = units::larger(l44 as u64, units::larger(l50 as u64, l25 as u64));
-    Tenths(10 * units::div_up(largest, 10))
+    let largest = l44.max(l50).max(l25);
+    Tenths(10 * units::div_up(u64::from(largest), 10))
 }
 
 pub fn line59(l57: u32, l58: u32) -> Tenths
     ensures { result ≡ line59 (tenths l57) (hundredths l58) }
 {
-    Tenths(l57 as u64 * l58 as u64 / 100)
+    Tenths(u64::from(l57) * u64::from(l58) / 100)
 }

@@ -3,6 +3,7 @@ use Rattle.std.specs.Prelude.{ℕ, ◌+◌, ◌-◌, ◌*◌, ◌/◌, ◌≤◌
 use Rattle.units.specs.Numbers.{pick}
 use Rattle.sheet.specs.declared.Vehicle.{Vehicle}
 use Rattle.sheet.specs.declared.Vehicle.TheVariants.{Car, Su, Bus, Wb50}
+use Rattle.scale.specs.declared.Fraction.{Fraction}
 use Rattle.scale.specs.declared.Place.{Place}
 
 -- "grade tenths of a percent": how much of it is uphill; level and downhill are 0
@@ -44,6 +45,10 @@ line_of entry c row = mix_of (entry row c.step) (entry row (c.step + 1)) c
 -- and between two rows: exact, times the widths of both steps
 unfoldable pub spread_of : (ℕ → ℕ → ℕ) → Place → Place → ℕ
 spread_of entry c r = mix_of (line_of entry c r.step) (line_of entry c (r.step + 1)) r
+
+-- and so a table's value at a column's place and a row's, as an exact fraction of the table's unit
+abbrev pub read_of : (ℕ → ℕ → ℕ) → Place → Place → Fraction
+read_of entry c r = record { over = spread_of entry c r; under = c.width * r.width }
 
 -- a scale with a mark every w, the first, number i, at 0
 abbrev pub every_of : ℕ → ℕ → ℕ → Place

@@ -1,5 +1,5 @@
 -- The contract of each public function of the crate fixes the reply and asks nothing: it is an equation with a definition. Assumes nothing.
-use mathlib.Core.Path.{sym, ◌∙◌, refl}
+use mathlib.Core.Path.{◌≡◌, sym, ◌∙◌, refl}
 use Rattle.units.specs.Fixed.{Fixes, AsksNothing}
 use Rattle.scaled.proofs.is_car.Kinds as is_car_kinds
 use Rattle.scaled.proofs.is_car.Reads as is_car_reads
@@ -11,6 +11,13 @@ use Rattle.scaled.proofs.column.Kinds as column_kinds
 use Rattle.scaled.proofs.column.Reads as column_reads
 use Rattle.scaled.proofs.spread.Kinds as spread_kinds
 use Rattle.scaled.proofs.spread.Reads as spread_reads
+use mathlib.Core.List.{[], ne-nil_of_mem}
+use denote.RattleType.{RattleType}
+use denote.Param.Laws.{Laws}
+use mir.Syntax.{Dict}
+use Rattle.scaled.specs.declared.Printed.{Ghosts}
+use Rattle.scaled.proofs.read.Kinds as read_kinds
+use Rattle.scaled.proofs.read.Reads as read_reads
 
 pub is_car_fixed : Fixes 0 is_car_kinds.ps is_car_kinds.r is_car_reads.Learnt
 is_car_fixed κs a z z' w w' p q = (p ∙ sym q, refl)
@@ -41,3 +48,11 @@ spread_fixed κs a z z' w w' p q = (p ∙ sym q, refl)
 
 pub spread_open : AsksNothing 0 spread_kinds.ps spread_reads.Asked
 spread_open κs a = tt
+
+-- whatever the table, whose type has no lifetimes in it
+module _ (T : RattleType) (L : Laws T) (P : Ghosts T.Denot) (dict : Dict) where
+  pub read_fixed : Fixes 1 (read_kinds.ps T L) (read_kinds.r T L) (read_reads.Learnt T L P dict)
+  read_fixed κs a z z' w w' p q = (p ∙ sym q, refl)
+
+  pub read_open : T.lives ≡ [] → AsksNothing 1 (read_kinds.ps T L) (read_reads.Asked T L P dict)
+  read_open none κs a = λ l m. absurd (ne-nil_of_mem m none)

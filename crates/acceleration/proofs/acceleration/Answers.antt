@@ -2,7 +2,6 @@
 use mathlib.Core.Path.{◌∙◌, ap}
 use native.Mathlib.Omega.{arith}
 use lib.IntN.{ℤ}
-use lib.ListN.{take}
 use mir.Facts.{to_z-of_z}
 use borrow.Author.Tests.{le-leb, lt-leb, lt-ltb, le-ltb}
 use Rattle.units.specs.Numbers.{up, feet, tenths}
@@ -17,7 +16,7 @@ pub returns-then-distance-le400 : goal.returns-then-distance-le400
 unfolding acceleration_of
 returns-then-distance-le400 c =
     let a = c.args in
-    let ps = take a.count a.points in
+    let ps = a.points.now in
     pick_yes _ _ _ _ (le-leb a.distance.0 400 (omega arith))
     (c.by_curve.ensures.0 ∙ ap (λ (g : ℤ). curve_time_of ps a.vehicle g a.distance) (to_z-of_z c.ranges.grade))
 
@@ -29,7 +28,7 @@ pub returns-then-distance-lt425 : goal.returns-then-distance-lt425
 unfolding acceleration_of
 returns-then-distance-lt425 c =
     let a = c.args in
-    let ps = take a.count a.points in
+    let ps = a.points.now in
     let same = to_z-of_z c.ranges.grade in
     let start = c.by_curve-at_400.ensures.0 ∙ ap (λ (g : ℤ). curve_time_of ps a.vehicle g (feet 400)) same in
     let end = c.far-at_425.ensures ∙ ap (λ (g : ℤ). far_of a.vehicle g (feet 425)) same in

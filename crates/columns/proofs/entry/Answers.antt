@@ -1,6 +1,7 @@
 -- `columns::entry` meets its contract: past the last column and past the last row stands 0, and elsewhere the printed entry. That the code's rows are the printed ones is computed over the whole table,
 -- where a need about the code's rows is met by a law of `decimals`. Assumes nothing.
-use mathlib.Core.Path.{refl, sym, ap}
+use mathlib.Core.Path.{refl, sym, ◌∙◌, ap}
+use Prim.Native.Nat.{ℕ, ◌+◌}
 use Rattle.units.specs.Numbers.{hundredths}
 use Rattle.table.specs.Table.{table}
 use Rattle.table.proofs.Columns.{printed, outside_row, outside_column}
@@ -17,4 +18,4 @@ returns-then-row-ge16 c =
 pub returns : goal.returns
 unfolding table
 returns c =
-    let a = c.args in ap hundredths (printed a.row a.col (omega arith) (omega arith))
+    let a = c.args in ap hundredths (ap (λ (n : ℕ). 100 + n) c.from.ensures ∙ printed a.row a.col (omega arith) (omega arith))

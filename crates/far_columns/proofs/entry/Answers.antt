@@ -1,6 +1,6 @@
 -- `far_columns::entry` meets its contract: past the last column and past the last row stands 0, and elsewhere the table's entry. That the code's blocks are the table's rows in fives is computed over all of it,
 -- where a need about the code's blocks is met by a law of `blocks`. Assumes nothing.
-use mathlib.Core.Path.{refl, sym, ap}
+use mathlib.Core.Path.{refl, sym, ◌∙◌, ap}
 use native.Mathlib.Omega.{arith}
 use Rattle.units.specs.Numbers.{tenths}
 use Rattle.far_table.specs.FarTable.{far_table}
@@ -17,4 +17,4 @@ returns-then-row-ge24 c =
 pub returns : goal.returns
 unfolding far_table
 returns c =
-    let a = c.args in ap tenths (kept a.row a.col (omega arith) (omega arith))
+    let a = c.args in ap tenths (c.from.ensures ∙ kept a.row a.col (omega arith) (omega arith))

@@ -1,24 +1,22 @@
 -- `form::worksheet` meets its contract: an accepted sheet has its lines, a refused one zeros. Assumes nothing.
-use mathlib.Core.Path.{◌∙◌}
+use mathlib.Core.Path.{sym, ◌∙◌, ap}
 use Rattle.units.proofs.Steps.{pick_yes, pick_not}
-use Rattle.sheet.proofs.Answers.{is_fine_lem}
+use Rattle.sheet.specs.Refusals.{is_fine}
+use Rattle.faults.specs.Whole.{accept_of}
+use Rattle.lines.specs.Lines.{lines_of}
 use Rattle.lines.specs.Worksheet.{worksheet_of}
-use Rattle.form.proofs.Told.{told}
 use Rattle.form.proofs.worksheet.Goals as goal
 
-pub lines_of-lines-requires : goal.lines_of-lines-requires
-lines_of-lines-requires c = is_fine_lem _ (told c.accept-answer.ensures c.is_fine.ensures ∙ c.if-is_fine.true)
-
-pub returns-then-is_fine : goal.returns-then-is_fine
+pub returns-in-Ok : goal.returns-in-Ok
 unfolding worksheet_of
-returns-then-is_fine c =
-    let fine = told c.accept-answer.ensures c.is_fine.ensures ∙ c.if-is_fine.true in
-    let lines = pick_yes _ _ _ _ fine c.lines_of-lines.ensures in
-    λ i. record { answer = c.accept-answer.ensures i; lines = lines i }
+returns-in-Ok c =
+    let told = sym c.in-Ok.accepted.accepted ∙ ap accept_of c.in-Ok.ensures in
+    let lines = pick_yes _ _ _ _ (ap is_fine (sym told)) (c.lines_of.ensures ∙ ap lines_of c.in-Ok.ensures) in
+    λ i. record { answer = told i; lines = lines i }
 
-pub returns-else-is_fine : goal.returns-else-is_fine
+pub returns-in-Err : goal.returns-in-Err
 unfolding worksheet_of
-returns-else-is_fine c =
-    let faulty = told c.accept-answer.ensures c.is_fine.ensures ∙ c.if-is_fine.false in
-    let lines = pick_not _ _ _ _ faulty c.zero_lines-lines.ensures in
-    λ i. record { answer = c.accept-answer.ensures i; lines = lines i }
+returns-in-Err c =
+    let told = sym c.in-Err.ensures in
+    let lines = pick_not _ _ _ _ (ap is_fine (sym told)) c.zero_lines.ensures in
+    λ i. record { answer = told i; lines = lines i }

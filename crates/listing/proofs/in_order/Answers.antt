@@ -5,4 +5,4 @@ use Rattle.listing.proofs.in_order.Goals as goal
 pub returns : goal.returns
 unfolding in_order
 returns c =
-    rw (c.wide.ensures, c.wide-2.ensures)
+    rw (c.from.ensures, c.from-2.ensures)

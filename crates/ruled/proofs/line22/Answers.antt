@@ -6,7 +6,3 @@ use Rattle.ruled.proofs.line22.Goals as goal
 pub overflow_add-result : goal.overflow_add-result
 overflow_add-result c =
     omega (arith, c.div_up.ensures, up_le c.args.l21.0 2 9223372036854775808 (omega arith) (omega arith))
-
-pub returns : goal.returns
-returns c =
-    rw c.div_up.ensures

@@ -6,7 +6,7 @@ use Rattle.ruled.proofs.waited.Goals as goal
 pub returns-then-p-eq1 : goal.returns-then-p-eq1
 unfolding waited
 returns-then-p-eq1 c =
-    search steps
+    rw c.from.ensures (search steps)
 
 pub returns-else-p-eq1 : goal.returns-else-p-eq1
 unfolding waited
