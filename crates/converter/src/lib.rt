@@ -11,12 +11,11 @@ pub fn convert(text: &[u8], out: &mut [u8]) -> Written
     ensures { (result ≡ converted_of text.now (length out.old)) × (out.new ≡ converted_bytes text.now out.old) }
 {
     let reading = reader::read_older(text);
-    let answer = reading.answer;
-    if answers::is_fine(answer) {
-        return writer::write(reading.sheet, out);
-    }
-    Written {
-        answer: answer,
-        length: 0,
+    match reading.answer {
+        Ok(()) => writer::write(reading.sheet, out),
+        Err(refused) => Written {
+            answer: Err(refused),
+            length: 0,
+        },
     }
 }

@@ -1,120 +1,46 @@
 // A line of a text by its row of the table: its key, its numbers and a line feed, and what is wrong with it.
 #![tactic(auto)]
 
-ghost use Rattle.std.specs.Prelude.{◌≡◌, ℕ, ◌+◌, ◌-◌, ◌≤◌, ◌<◌, List, true, false, eqb, length, take};
-ghost use Rattle.rows.specs.Table.{plain, list, row_count, number_count, range_of, width_of, place_of};
+ghost use Rattle.std.specs.Prelude.{◌≡◌, ℕ, ◌+◌, ◌-◌, ◌≤◌, ◌<◌, List, true, get_or, set, take};
+ghost use Rattle.rows.specs.Table.{is_list, row_count, number_count, range_of, width_of, place_of};
+ghost use Rattle.rows.specs.Marks.{mark_of};
+ghost use Rattle.sheet.specs.declared.Refusal.TheVariants.{Malformed};
 ghost use Rattle.faults.specs.Lines.{row_fault};
 ghost use Rattle.figures.specs.Figures.{on_place, after_at};
-ghost use Rattle.text.specs.Line.{so_far, bad, fields, list_count, list_end, list_fields, values_at, ended};
-ghost use Rattle.sheet.specs.declared.Answer.TheVariants.{Refused};
-ghost use Rattle.sheet.specs.declared.Refusal.TheVariants.{Malformed};
-ghost use Rattle.text.specs.Read.{step, judged_at};
+ghost use Rattle.text.specs.Line.{taken, bad, fields, list_count, list_fields, values_at, ended};
+ghost use Rattle.text.specs.Read.{reached, judged_at};
 ghost use Rattle.text.proofs.Past.{past_at};
 
-use figures::{Figure, Place};
-use rows::{Key, NUMBERS, ROWS, table};
-use sheet::{Answer, Refusal};
+use rows::{Form, Key, NUMBERS, ROWS};
+use sheet::{Answer, Refusal, Refused};
 
-// What was read of a line: whether it is well made, and the place past it. Its numbers are stored in the array lent.
-#[derive(Clone, Copy)]
-pub struct Found {
-    pub good: bool,
-    pub next: usize,
-}
-
-// The answer so far, and the place past what was read.
-#[derive(Clone, Copy)]
-pub struct Reached {
-    pub answer: Answer,
-    pub next: usize,
-}
-
-// The place past the first n letters of a key. No key has less than three, and where the text is long enough for all of them they are compared without
-// looking for its end.
-fn key(s: &[u8], at: usize, letters: [u8; 8], n: usize) -> Place
-    requires { (at ≤ length s.now) × (3 ≤ n) × (n ≤ 8) }
-    ensures { result ≡ after_at s.now at (take n letters) }
+// What stands before number j of a line.
+fn mark(j: usize) -> &'static [u8]
+    ensures { result.now ≡ mark_of j }
 {
-    if s.len() - at < n {
-        return Place::Nowhere;
-    }
-    if s[at] != letters[0] {
-        return Place::Nowhere;
-    }
-    if s[at + 1] != letters[1] {
-        return Place::Nowhere;
-    }
-    if s[at + 2] != letters[2] {
-        return Place::Nowhere;
-    }
-    let mut i: usize = 3;
-    while i < n {
-        if s[at + i] != letters[i] {
-            return Place::Nowhere;
-        }
-        i = i + 1;
-    }
-    Place::At(at + n)
+    if j == 0 { b"=" } else { b"," }
 }
 
-// The numbers of a line after its first, stored after its place. They are all plain.
-fn rest(s: &[u8], at: usize, place: usize, n: usize, v: &mut [u32; NUMBERS]) -> Found
+// n numbers of a line of that form, stored from a place on. Like each function below it gives the place past what it read; its numbers stand in the array lent.
+fn fields(
+    s: &[u8],
+    at: usize,
+    form: Form,
+    place: usize,
+    n: usize,
+    v: &mut [u32; NUMBERS],
+) -> Option<usize>
     requires { place + n ≤ number_count }
-    ensures { so_far result.good result.next v.new ≡ fields s.now plain place (n - 1) 1 at v.old }
+    ensures { taken result v.new ≡ fields s.now form place n 0 at v.old }
 {
-    let mut p = at;
-    let mut j: usize = 1;
-    while j < n {
-        match words::after(s, p, b",") {
-            Place::Nowhere => {
-                return Found {
-                    good: false,
-                    next: 0,
-                };
-            }
-            Place::At(q) => match digits::number(s, q) {
-                Figure::Bad => {
-                    return Found {
-                        good: false,
-                        next: 0,
-                    };
-                }
-                Figure::Is(x, t) => {
-                    let e = place + j;
-                    v[e] = x;
-                    p = t;
-                }
-            },
-        }
-        j = j + 1;
+    let mut next = at;
+    for j in 0..n {
+        let start = words::after(s, next, mark(j))?;
+        let figure = field::written(s, start, form)?;
+        v[place + j] = figure.value;
+        next = figure.next;
     }
-    Found {
-        good: true,
-        next: p,
-    }
-}
-
-// n numbers of a line, stored from a place on. Only a line of one number has words or a sign.
-fn fields(s: &[u8], at: usize, form: usize, place: usize, n: usize, v: &mut [u32; NUMBERS]) -> Found
-    requires { (place + n ≤ number_count) × (1 ≤ n) × (1 < n → form ≡ plain) }
-    ensures { so_far result.good result.next v.new ≡ fields s.now form place n 0 at v.old }
-{
-    match words::after(s, at, b"=") {
-        Place::Nowhere => Found {
-            good: false,
-            next: 0,
-        },
-        Place::At(q) => match field::field(s, q, form) {
-            Figure::Bad => Found {
-                good: false,
-                next: 0,
-            },
-            Figure::Is(x, t) => {
-                v[place] = x;
-                rest(s, t, place, n, v)
-            }
-        },
-    }
+    Some(next)
 }
 
 // How many numbers a list has of which k were read, the first of them x: 0 stands for none only when it is alone.
@@ -122,200 +48,142 @@ fn count(k: usize, x: u32) -> u32
     requires { k ≤ number_count }
     ensures { result ≡ list_count k x }
 {
-    if k == 1 {
-        if x == 0 {
-            return 0;
-        }
-        return 1;
-    }
-    k as u32
+    if k == 1 && x == 0 { 0 } else { k as u32 }
 }
 
-// A list that is over after k numbers, at that place of the text. How many they are is stored before them.
-fn counted(next: usize, place: usize, k: usize, v: &mut [u32; NUMBERS]) -> Found
+// A list that is over after k numbers: how many they are is stored before them.
+fn counted(place: usize, k: usize, v: &mut [u32; NUMBERS])
     requires { (place + 1 < number_count) × (k ≤ number_count) }
-    ensures { so_far result.good result.next v.new ≡ list_end place k next v.old }
+    ensures { v.new ≡ set v.old place (list_count k (get_or v.old (place + 1) 0)) }
 {
-    let x = v[place + 1];
-    let c = count(k, x);
-    v[place] = c;
-    Found {
-        good: true,
-        next: next,
-    }
+    v[place] = count(k, v[place + 1]);
 }
 
-// The numbers of a list after its first, at most n in all. Where no comma follows the list is over.
-fn listed(s: &[u8], at: usize, place: usize, n: usize, v: &mut [u32; NUMBERS]) -> Found
+// A list of at most n numbers, stored after their count. One must stand; where no comma follows the list is over.
+fn list(s: &[u8], at: usize, place: usize, n: usize, v: &mut [u32; NUMBERS]) -> Option<usize>
     requires { (place + 1 + n ≤ number_count) × (1 ≤ n) }
-    ensures { so_far result.good result.next v.new ≡ list_fields s.now place (n - 1) 1 at v.old }
+    ensures { taken result v.new ≡ list_fields s.now place n 0 at v.old }
 {
-    let mut p = at;
-    let mut k: usize = 1;
-    while k < n {
-        match words::after(s, p, b",") {
-            Place::Nowhere => {
-                return counted(p, place, k, v);
+    let mut next = at;
+    for k in 0..n {
+        let Some(start) = words::after(s, next, mark(k)) else {
+            if k == 0 {
+                return None;
             }
-            Place::At(q) => match digits::number(s, q) {
-                Figure::Bad => {
-                    return Found {
-                        good: false,
-                        next: 0,
-                    };
-                }
-                Figure::Is(x, t) => {
-                    let e = place + 1 + k;
-                    v[e] = x;
-                    p = t;
-                }
-            },
-        }
-        k = k + 1;
+            counted(place, k, v);
+            return Some(next);
+        };
+        let figure = digits::number(s, start)?;
+        v[place + 1 + k] = figure.value;
+        next = figure.next;
     }
-    counted(p, place, k, v)
-}
-
-// A list of at most n numbers, stored after their count. The first is read as that of a line of one number.
-fn list(s: &[u8], at: usize, place: usize, n: usize, v: &mut [u32; NUMBERS]) -> Found
-    requires { (place + 1 + n ≤ number_count) × (1 ≤ n) }
-    ensures { so_far result.good result.next v.new ≡ list_fields s.now place n 0 at v.old }
-{
-    let first = fields(s, at, table::PLAIN, place + 1, 1, v);
-    if first.good {
-        return listed(s, first.next, place, n, v);
-    }
-    first
+    counted(place, n, v);
+    Some(next)
 }
 
 // The numbers of a line by its form, stored from a place on. A list has its count there first, which the text does not say.
-fn values(s: &[u8], at: usize, form: usize, place: usize, n: usize, v: &mut [u32; NUMBERS]) -> Found
-    requires { (place + n ≤ number_count) × (1 ≤ n) × (1 < n → eqb form list ≡ false → form ≡ plain) × (eqb form list ≡ true → 2 ≤ n) }
-    ensures { so_far result.good result.next v.new ≡ values_at s.now form place n at v.old }
+fn values(
+    s: &[u8],
+    at: usize,
+    form: Form,
+    place: usize,
+    n: usize,
+    v: &mut [u32; NUMBERS],
+) -> Option<usize>
+    requires { (place + n ≤ number_count) × (is_list form ≡ true → 2 ≤ n) }
+    ensures { taken result v.new ≡ values_at s.now form place n at v.old }
 {
-    if form == rows::LIST {
-        return list(s, at, place, n - 1, v);
-    }
-    fields(s, at, form, place, n, v)
-}
-
-// What was read of a line, once its line feed is seen.
-fn ended(s: &[u8], found: Found) -> Found
-    ensures { (v : List ℕ) → so_far result.good result.next v ≡ ended s.now (so_far found.good found.next v) }
-{
-    if found.good {
-        let at = found.next;
-        match words::after(s, at, b"\n") {
-            Place::Nowhere => Found {
-                good: false,
-                next: 0,
-            },
-            Place::At(q) => Found {
-                good: true,
-                next: q,
-            },
-        }
-    } else {
-        found
+    match form {
+        Form::Listed => list(s, at, place, n - 1, v),
+        Form::Plain | Form::Worded | Form::Signed => fields(s, at, form, place, n, v),
     }
 }
 
 // The line of a key at a place of the text, with n numbers.
-fn line(s: &[u8], at: usize, facts: Key, place: usize, n: usize, v: &mut [u32; NUMBERS]) -> Found
-    requires { (at ≤ length s.now) × (3 ≤ facts.1) × (facts.1 ≤ 8) × (place + n ≤ number_count) × (1 ≤ n) × (1 < n → eqb facts.2 list ≡ false → facts.2 ≡ plain) × (eqb facts.2 list ≡ true → 2 ≤ n) }
-    ensures { so_far result.good result.next v.new ≡ on_place (after_at s.now at (take facts.1 facts.0)) (λ p. ended s.now (values_at s.now facts.2 place n p v.old)) (bad v.old) }
-{
-    let letters = facts.0;
-    let form = facts.2;
-    match key(s, at, letters, facts.1) {
-        Place::Nowhere => Found {
-            good: false,
-            next: 0,
-        },
-        Place::At(p) => {
-            let found = values(s, p, form, place, n, v);
-            ended(s, found)
-        }
-    }
-}
-
-// The fault of a row with n numbers, the first of them from `least` to `most`. A line of one number has no rule but its range.
-fn fault(
-    v: &[u32; NUMBERS],
-    row: usize,
-    number: u32,
+fn line(
+    s: &[u8],
+    at: usize,
+    facts: Key,
     place: usize,
     n: usize,
-    least: u32,
-    most: u32,
-) -> Answer
-    requires { (row < row_count) × (place ≡ place_of row) × (n ≡ width_of row) × (least ≡ (range_of row 0).least) × (most ≡ (range_of row 0).most) }
+    v: &mut [u32; NUMBERS],
+) -> Option<usize>
+    requires { (facts.length ≤ 8) × (place + n ≤ number_count) × (is_list facts.form ≡ true → 2 ≤ n) }
+    ensures { taken result v.new ≡ on_place (after_at s.now at (take facts.length facts.letters)) (λ p. ended s.now (values_at s.now facts.form place n p v.old)) (bad v.old) }
+{
+    let start = words::after(s, at, &facts.letters[..facts.length])?;
+    let end = values(s, start, facts.form, place, n, v)?;
+    words::after(s, end, b"\n")
+}
+
+// The fault of a row with n numbers. A line of one number has no rule but the range of its key.
+fn fault(v: &[u32; NUMBERS], row: usize, number: u32, facts: Key, place: usize, n: usize) -> Answer
+    requires { (row < row_count) × (place ≡ place_of row) × (n ≡ width_of row) × (facts.least ≡ (range_of row 0).least) × (facts.most ≡ (range_of row 0).most) }
     ensures { result ≡ row_fault v.now row number }
 {
     if n == 1 {
         let x = v[place];
-        if x < least {
-            return Answer::Refused(Refusal::OutOfRange, number);
+        if x < facts.least || facts.most < x {
+            return Err(Refused {
+                refusal: Refusal::OutOfRange,
+                line: number,
+            });
         }
-        if most < x {
-            return Answer::Refused(Refusal::OutOfRange, number);
-        }
-        return Answer::Fine;
+        return Ok(());
     }
     row_fault::row_fault(v, row, number)
 }
 
 // "1: a line is .. malformed".
-fn malformed(number: u32) -> Reached
-    ensures { (result.answer ≡ Refused Malformed number) × (result.next ≡ 0) }
+fn malformed(number: u32) -> Refused
+    ensures { result ≡ record { refusal = Malformed; line = number } }
 {
-    Reached {
-        answer: Answer::Refused(Refusal::Malformed, number),
-        next: 0,
+    Refused {
+        refusal: Refusal::Malformed,
+        line: number,
     }
 }
 
 // The line of a row of the table with its fault, by its line number. The key is looked up once.
-fn known(s: &[u8], at: usize, row: usize, number: u32, v: &mut [u32; NUMBERS]) -> Reached
-    requires { (row < row_count) × (at ≤ length s.now) }
-    ensures { step result.answer result.next v.new ≡ judged_at s.now at row number v.old }
+fn known(
+    s: &[u8],
+    at: usize,
+    row: usize,
+    number: u32,
+    v: &mut [u32; NUMBERS],
+) -> Result<usize, Refused>
+    requires { row < row_count }
+    ensures { reached result v.new ≡ judged_at s.now at row number v.old }
 {
     let facts = rows::facts(row);
     let place = places::place(row);
     let n = places::width(row);
-    let found = line(s, at, facts, place, n, v);
-    if found.good {
-        let answer = fault(v, row, number, place, n, facts.3, facts.4);
-        return Reached {
-            answer: answer,
-            next: found.next,
-        };
-    }
-    malformed(number)
+    let Some(next) = line(s, at, facts, place, n, v) else {
+        return Err(malformed(number));
+    };
+    fault(v, row, number, facts, place, n)?;
+    Ok(next)
 }
 
 // A row past the table has no key and no number: its line is a line feed. No reader asks for one.
-fn past(s: &[u8], at: usize, number: u32) -> Reached
-    ensures { (v : List ℕ) → step result.answer result.next v ≡ past_at s.now at number v }
+fn past(s: &[u8], at: usize, number: u32) -> Result<usize, Refused>
+    ensures { (v : List ℕ) → reached result v ≡ past_at s.now at number v }
 {
-    match words::after(s, at, b"\n") {
-        Place::Nowhere => malformed(number),
-        Place::At(q) => Reached {
-            answer: Answer::Fine,
-            next: q,
-        },
-    }
+    words::after(s, at, b"\n").ok_or(malformed(number))
 }
 
-// The line of a row at a place of the text with its fault, by its line number. Its numbers are stored in the array lent.
-pub fn judged(s: &[u8], at: usize, row: usize, number: u32, v: &mut [u32; NUMBERS]) -> Reached
-    ensures { step result.answer result.next v.new ≡ judged_at s.now at row number v.old }
+// The line of a row at a place of the text with its fault, by its line number: the place past it. Its numbers are stored in the array lent.
+pub fn judged(
+    s: &[u8],
+    at: usize,
+    row: usize,
+    number: u32,
+    v: &mut [u32; NUMBERS],
+) -> Result<usize, Refused>
+    ensures { reached result v.new ≡ judged_at s.now at row number v.old }
 {
     if row < ROWS {
-        if at <= s.len() {
-            return known(s, at, row, number, v);
-        }
-        return malformed(number);
+        return known(s, at, row, number, v);
     }
     past(s, at, number)
 }

@@ -1,16 +1,8 @@
 -- The contract of each public function of the crate fixes the reply and asks nothing: it is an equation with a definition. Assumes nothing.
 use mathlib.Core.Path.{sym, ◌∙◌, refl}
 use Rattle.units.specs.Fixed.{Fixes, AsksNothing}
-use Rattle.orders.proofs.past.Kinds as past_kinds
-use Rattle.orders.proofs.past.Reads as past_reads
 use Rattle.orders.proofs.read.Kinds as read_kinds
 use Rattle.orders.proofs.read.Reads as read_reads
-
-pub past_fixed : Fixes 2 past_kinds.ps past_kinds.r past_reads.Learnt
-past_fixed κs a z z' w w' p q = (p ∙ sym q, refl)
-
-pub past_open : AsksNothing 2 past_kinds.ps past_reads.Asked
-past_open κs a = tt
 
 pub read_fixed : Fixes 1 read_kinds.ps read_kinds.r read_reads.Learnt
 read_fixed κs a z z' w w' p q = (p ∙ sym q, refl)

@@ -1,27 +1,17 @@
--- The ticks of a run as lines: "`tick=CALL`", "`tick=CALL,NEXT`" and "`ticks=CALL,COUNT`". A place is an index of the text; one past the text stands for none.
-use Rattle.std.specs.Prelude.{ℕ, List, [], ◌∷◌, length, leb, eqb}
+-- The ticks of a run as lines: "`tick=CALL`", "`tick=CALL,NEXT`" and "`ticks=CALL,COUNT`". A place is an index of the text.
+use Rattle.std.specs.Prelude.{ℕ, List, [], ◌∷◌, Bool, Option, Some, None, leb, eqb}
 use Rattle.units.specs.Numbers.{pick}
-use Rattle.figures.specs.Figures.{after_at, number_at, on_place, on_figure}
+use Rattle.figures.specs.declared.Figure.{Figure}
+use Rattle.figures.specs.Figures.{is, after_at, number_at, on_place, on_figure}
+use Rattle.stage.specs.declared.Command.TheVariants as commands
 use Rattle.stage.specs.declared.Command.{Command}
-use Rattle.stage.specs.declared.Command.TheVariants.{None, End}
 use Rattle.orders.specs.declared.Order.{Order}
-use Rattle.orders.specs.declared.Value.{Value}
 use Rattle.orders.specs.declared.Two.{Two}
 
-abbrev pub nowhere : ℕ
-nowhere = 18446744073709551615
-
--- the place past a word that stands at a place
-unfoldable pub past_at : List ℕ → ℕ → List ℕ → ℕ
-past_at s at w = on_place (after_at s at w) (λ p. p) nowhere
-
-abbrev pub valued : ℕ → ℕ → Value
-valued v p = record { value = v; next = p }
-
--- a number from the least to the most
-unfoldable pub value_at : List ℕ → ℕ → ℕ → ℕ → Value
-value_at s at least most =
-    on_figure (number_at s at) (λ v p. pick (leb least v) (pick (leb v most) (valued v p) (valued 0 nowhere)) (valued 0 nowhere)) (valued 0 nowhere)
+-- a number from the least to the most after a word
+unfoldable pub value_at : List ℕ → ℕ → List ℕ → ℕ → ℕ → Option Figure
+value_at s at w least most =
+    on_place (after_at s at w) (λ p. on_figure (number_at s p) (λ v q. pick (leb least v) (pick (leb v most) (is v q) None) None) None) None
 
 -- the bytes of `tick=`, `ticks=`, `,` and the end of a line
 abbrev pub tick_word : List ℕ
@@ -37,26 +27,29 @@ abbrev pub newline : List ℕ
 newline = 10 ∷ []
 
 -- "CALL" is 0 or 1
-abbrev pub call_at : List ℕ → ℕ → List ℕ → Value
-call_at s at w = value_at s (past_at s at w) 0 1
+abbrev pub call_at : List ℕ → ℕ → List ℕ → Option Figure
+call_at s at w = value_at s at w 0 1
 
-abbrev pub second_after : List ℕ → Value → ℕ → ℕ → Value
-second_after s c least most = value_at s (past_at s c.next comma) least most
+abbrev pub two : ℕ → ℕ → ℕ → Option Two
+two c v p = Some (record { call = eqb c 1; value = v; next = p })
 
-abbrev pub two_of : List ℕ → Value → Value → Two
-two_of s c v =
-    record { call = eqb c.value 1; value = v.value; next = past_at s v.next newline; alone = past_at s c.next newline }
+unfoldable pub two_at : List ℕ → ℕ → List ℕ → ℕ → ℕ → Option Two
+two_at s at w least most =
+    on_figure (call_at s at w) (λ c p. on_figure (value_at s p comma least most) (λ v q. on_place (after_at s q newline) (λ t. two c v t) None) None) None
 
-unfoldable pub two_at : List ℕ → ℕ → List ℕ → ℕ → ℕ → Two
-two_at s at w least most = two_of s (call_at s at w) (second_after s (call_at s at w) least most)
+abbrev pub order : Command → Bool → ℕ → ℕ → Option Order
+order command call count p = Some (record { command = command; call = call; count = count; next = p })
 
--- `ticks=CALL,COUNT`, else `tick=CALL,NEXT`, else `tick=CALL`, where the text has n bytes
-unfoldable pub chosen : ℕ → Two → Two → Order
-chosen n many one =
-    pick (leb many.next n) (record { command = None; call = many.call; count = many.value; next = many.next })
-    (pick (leb one.next n) (record { command = End one.value; call = one.call; count = 1; next = one.next })
-    (record { command = None; call = one.call; count = 1; next = one.alone }))
+abbrev pub on_two : Option Two → (Two → Option Order) → Option Order → Option Order
+on_two (Some t) f d = f t
+on_two None f d = d
 
--- COUNT is at least 1; NEXT is a phase's number or 0
-unfoldable pub order_at : List ℕ → ℕ → Order
-order_at s at = chosen (length s) (two_at s at ticks_word 1 999999) (two_at s at tick_word 0 255)
+-- `tick=CALL`
+unfoldable pub alone_at : List ℕ → ℕ → Option Order
+alone_at s at = on_figure (call_at s at tick_word) (λ c p. on_place (after_at s p newline) (λ t. order commands.None (eqb c 1) 1 t) None) None
+
+-- `ticks=CALL,COUNT`, else `tick=CALL,NEXT`, else `tick=CALL`. COUNT is at least 1; NEXT is a phase's number or 0
+unfoldable pub order_at : List ℕ → ℕ → Option Order
+order_at s at =
+    on_two (two_at s at ticks_word 1 999999) (λ t. order commands.None t.call t.value t.next)
+    (on_two (two_at s at tick_word 0 255) (λ t. order (commands.End t.value) t.call 1 t.next) (alone_at s at))

@@ -3,7 +3,7 @@ use Prim.Native.Nat.{ℕ, ◌≤◌, ◌<◌}
 use mathlib.Core.Path.{◌≡◌, refl}
 use mathlib.Core.Bool.{Bool, true, false}
 use lib.Dec.{T, eqb, leb, leb→le}
-use borrow.Author.Tests.{eq-eqb, eqb-true}
+use borrow.Author.Tests.{eqb-true}
 use Rattle.units.specs.Numbers.{pick}
 use Rattle.units.proofs.Steps.{split, both_left, both_right}
 use Rattle.units.proofs.Tested.{given, given_then, at}
@@ -12,12 +12,12 @@ use Rattle.text.specs.Read.{stands_for, may_lack}
 use Rattle.text.specs.Promises.{AbsentIsFirstGrade, AbsentIsNone, OnlyTheseLack}
 
 -- one that stands for the number before it has one before it
-pub before_some : (row : ℕ) → row < row_count → absent_of row ≡ as_before → 1 ≤ place_of row
+pub before_some : (row : ℕ) → row < row_count → as_before (absent_of row) ≡ true → 1 ≤ place_of row
 unfolding absent_of place_of width_of ranges_of kind_of
 before_some row h e =
-    let t : T (eqb (absent_of row) as_before) = rw (eq-eqb (absent_of row) as_before e) tt in
+    let t : T (as_before (absent_of row)) = rw e tt in
     leb→le 1 (place_of row)
-    (given_then (eqb (absent_of row) as_before) (leb 1 (place_of row)) (at (λ (r : ℕ). given (eqb (absent_of r) as_before) (leb 1 (place_of r))) row_count tt row h) t)
+    (given_then (as_before (absent_of row)) (leb 1 (place_of row)) (at (λ (r : ℕ). given (as_before (absent_of r)) (leb 1 (place_of r))) row_count tt row h) t)
 
 pub absent_is_first_grade : AbsentIsFirstGrade
 unfolding stands_for absent_of place_of width_of ranges_of kind_of pick
@@ -28,7 +28,7 @@ unfolding stands_for absent_of kind_of pick
 absent_is_none v = refl
 
 abbrev some : ℕ → Bool
-some row = pick (eqb (absent_of row) must_stand) false true
+some row = pick (must_stand (absent_of row)) false true
 
 abbrev named : ℕ → Bool
 named row = pick (eqb row (row_for "grade2")) true (eqb row (row_for "dwell"))

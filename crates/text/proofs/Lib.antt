@@ -1,5 +1,4 @@
 pub mod Rows
-pub mod Letters
 pub mod Cases
 pub mod Puts
 pub mod Decimals

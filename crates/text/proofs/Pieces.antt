@@ -11,11 +11,11 @@ use borrow.Author.Tests.{leb-true}
 use Rattle.units.specs.Numbers.{pick}
 use Rattle.units.proofs.Steps.{pick_yes, pick_not}
 use Rattle.sheet.specs.declared.Sheet.{Sheet}
-use Rattle.sheet.specs.declared.Answer.{Answer}
-use Rattle.sheet.specs.declared.Answer.TheVariants.{Fine, Refused}
+use Rattle.sheet.specs.Refusals.{Answer, refused, is_fine, or_else, unless}
+use Rattle.std.specs.Prelude.{Ok}
 use Rattle.sheet.specs.declared.Refusal.TheVariants.{NoRoom}
-use Rattle.sheet.specs.Refusals.{is_fine, or_else, unless}
 use Rattle.sheet.proofs.Answers.{fine_or, bad_or, holds, fails}
+use Rattle.rows.specs.declared.table.Form.{Form}
 use Rattle.rows.specs.Table.{row_count, present}
 use Rattle.rows.specs.Marks.{mark_of}
 use Rattle.numbers.specs.Flat.{flat_of}
@@ -24,7 +24,7 @@ use Rattle.text.specs.Text.{field_text, fields_text, row_text, here_text, text_f
 use Rattle.text.specs.Write.{Put, answer_to, written_of, bytes_of}
 use Rattle.text.specs.declared.Written.{Written}
 
-module _ (form place n j : ℕ) (v : List ℕ) where
+module _ (form : Form) (place n j : ℕ) (v : List ℕ) where
   pub fields_over : n ≤ j → fields_text form place (n - j) j v ≡ []
   unfolding fields_text
   fields_over h = let e : n - j ≡ 0 = omega arith in rw e
@@ -70,12 +70,12 @@ module _ (s : Sheet) (b : List ℕ) (a : Answer) (accepted : a ≡ accept_of s) 
     abbrev long : ℕ
     long = length (text_from v row_count 0)
 
-    pub write_long : leb long (length b) ≡ false → Outcome (record { answer = Refused NoRoom 0; length = 0 }) b
+    pub write_long : leb long (length b) ≡ false → Outcome (record { answer = refused NoRoom 0; length = 0 }) b
     unfolding answer_to
-    write_long h = refused_with (Refused NoRoom 0) (room ∙ fails _ _ _ (rw flat at h)) refl
+    write_long h = refused_with (refused NoRoom 0) (room ∙ fails _ _ _ (rw flat at h)) refl
 
     pub write_done : leb long (length b) ≡ true → {out : List ℕ} {r : ℕ} → Put b out 0 r (text_from v row_count 0)
-        → Outcome (record { answer = Fine; length = r }) out
+        → Outcome (record { answer = Ok tt; length = r }) out
     unfolding written_of bytes_of answer_to
     write_done h p =
         let q = rw flat at p in
@@ -83,6 +83,6 @@ module _ (s : Sheet) (b : List ℕ) (a : Answer) (accepted : a ≡ accept_of s) 
         let fits : length (text_of s) ≤ length b = leb-true _ _ t in
         let z : 0 + length (text_of s) ≡ length (text_of s) = omega arith in
         let g = ap is_fine (room ∙ holds _ _ _ t) in (
-          pick_yes _ _ _ _ g (λ i. record { answer = Fine; length = (q.place ∙ z) i }),
+          pick_yes _ _ _ _ g (λ i. record { answer = Ok tt; length = (q.place ∙ z) i }),
           pick_yes _ _ _ _ g (rw (q.bytes, sets-eq (text_of s) b 0 (omega arith), z) refl),
         )

@@ -4,9 +4,8 @@ use mathlib.Core.Bool.{false}
 use Rattle.units.specs.Numbers.{pick}
 use Rattle.units.proofs.Steps.{never}
 use Rattle.sheet.specs.declared.Sheet.{Sheet}
-use Rattle.sheet.specs.declared.Answer.{Answer}
-use Rattle.sheet.specs.declared.Answer.TheVariants.{Fine, Refused}
-use Rattle.sheet.specs.Refusals.{is_fine, or_else}
+use Rattle.sheet.specs.Refusals.{Answer, is_fine, or_else}
+use Rattle.std.specs.Prelude.{Ok, Err}
 use Rattle.sheet.specs.Zero.{zero_sheet}
 use Rattle.numbers.specs.Flat.{sheet_of}
 use Rattle.faults.specs.Whole.{whole_fault}
@@ -15,8 +14,8 @@ use Rattle.text.specs.Promises.{RefusedIsZero}
 
 reply_refused : (a : Answer) (s : Sheet) → is_fine (reply a s).answer ≡ false → (reply a s).sheet ≡ zero_sheet
 unfolding reply pick
-reply_refused Fine s e = never (sym e)
-reply_refused (Refused r l) s e = refl
+reply_refused (Ok _) s e = never (sym e)
+reply_refused (Err d) s e = refl
 
 pub refused_is_zero : RefusedIsZero
 unfolding read_by

@@ -1,7 +1,7 @@
 -- How long a text can be by its counts of phases and points. Assumes nothing.
 use Prim.Native.Nat.{ℕ, zero, suc, ◌+◌, ◌-◌, ◌*◌, ◌≤◌}
-use mathlib.Core.Path.{◌≡◌, refl, sym, ◌∙◌}
-use mathlib.Core.List.{List, ◌++◌}
+use mathlib.Core.Path.{◌≡◌, refl, ◌∙◌}
+use mathlib.Core.List.{List}
 use native.Mathlib.Omega.{arith}
 use lib.ListN.{length, get_or, length-append}
 use lib.Dec.{ltb}
@@ -10,7 +10,7 @@ use Rattle.units.specs.Numbers.{pick}
 use Rattle.units.proofs.Steps.{split}
 use Rattle.rows.specs.Table.{row_count, first_phase, most_phases, first_point, most_points, place_for, key_of, form_of, ranges_of, kind_of, width_of, present}
 use Rattle.rows.specs.Longest.{longest_field, longest_fields, most_fields, longest_row, longest_from, longest}
-use Rattle.text.specs.Text.{row_text, here_text, text_from}
+use Rattle.text.specs.Text.{here_text, text_from}
 use Rattle.text.proofs.Lengths.{short_row}
 
 -- ---- the rows that a text has

@@ -1,48 +1,26 @@
--- What the table says of each row's line: its key has three letters or more, where it has more numbers than one they are plain or a list, a list has room
--- for one number and its count, and where a line has one number there is no rule but its range. Assumes nothing.
+-- What the table says of each row's line: a list has room for one number and its count, and where a line has one number there is no rule but its range.
+-- Assumes nothing.
 use Prim.Native.Nat.{ℕ, ◌≤◌, ◌<◌}
-use mathlib.Core.Path.{◌≡◌, refl, ap, sym, ◌∙◌}
+use mathlib.Core.Path.{◌≡◌, refl, sym, ◌∙◌}
 use mathlib.Core.Bool.{Bool, true, false}
 use mathlib.Core.List.{List, [], ◌∷◌}
 use native.Mathlib.Omega.{arith}
-use lib.Dec.{T, eqb, leb, ltb, eqb→eq, leb→le, lt→ltb}
+use lib.Dec.{T, eqb}
 use lib.ListN.{length, get_or}
-use borrow.Author.Tests.{le-leb, lt-leb, eqb-true}
+use borrow.Author.Tests.{le-leb, lt-leb}
 use Rattle.units.specs.Numbers.{pick}
 use Rattle.units.proofs.Steps.{split}
 use Rattle.units.proofs.Tested.{given, given_then, all_below, at}
-use Rattle.sheet.specs.declared.Answer.{Answer}
-use Rattle.sheet.specs.declared.Answer.TheVariants.{Fine, Refused}
+use Rattle.sheet.specs.Refusals.{Answer, refused, or_else, unless}
+use Rattle.std.specs.Prelude.{Ok, Err}
 use Rattle.sheet.specs.declared.Refusal.TheVariants.{OutOfRange}
-use Rattle.sheet.specs.Refusals.{or_else, unless}
 use Rattle.sheet.proofs.Answers.{holds, fails}
-use Rattle.rows.specs.declared.table.Key.{Key}
-use Rattle.rows.specs.Facts.{facts_of}
-use Rattle.rows.specs.Table.{Range, ◌to◌, plain, list, row_count, phase_kind, point_kind, kind_of, key_of, form_of, ranges_of, range_of, width_of, place_of, used_ranges, in_range, in_ranges}
-use Rattle.rows.proofs.Tables.{list_row}
+use Rattle.rows.specs.Table.{is_list, Range, ◌to◌, row_count, phase_kind, point_kind, kind_of, form_of, ranges_of, range_of, width_of, place_of, used_ranges, in_range, in_ranges}
+use Rattle.rows.proofs.Tables.{list_row, list_true}
 use Rattle.faults.specs.Lines.{rule_fault, row_fault}
 
-pub key_long : (row : ℕ) → row < row_count → 3 ≤ length (key_of row)
-unfolding key_of kind_of
-key_long row h = leb→le 3 (length (key_of row)) (at (λ (r : ℕ). leb 3 (length (key_of r))) row_count tt row h)
-
-pub facts_long : (row : ℕ) (k : Key) → k ≡ facts_of row → row < row_count → 3 ≤ k.1
-unfolding facts_of
-facts_long row k e h = let l : k.1 ≡ length (key_of row) = ap (λ (x : Key). x.1) e in omega (arith, key_long row h)
-
-abbrev either : Bool → Bool → Bool
-either a b = pick a true b
-
-pub wide_plain : (row : ℕ) → row < row_count → 1 < width_of row → eqb (form_of row) list ≡ false → form_of row ≡ plain
-unfolding form_of width_of ranges_of kind_of pick
-wide_plain row h w n =
-    let t = given_then (ltb 1 (width_of row)) (either (eqb (form_of row) list) (eqb (form_of row) plain))
-    (at (λ (r : ℕ). given (ltb 1 (width_of r)) (either (eqb (form_of r) list) (eqb (form_of r) plain))) row_count tt row h)
-    (lt→ltb 1 (width_of row) w) in
-    eqb→eq (form_of row) plain (rw n at t)
-
-pub list_wide : (row : ℕ) → eqb (form_of row) list ≡ true → 2 ≤ width_of row
-list_wide row e = omega (arith, (list_row row (eqb-true (form_of row) list e)).width)
+pub list_wide : (row : ℕ) → is_list (form_of row) ≡ true → 2 ≤ width_of row
+list_wide row e = omega (arith, (list_row row (list_true (form_of row) e)).width)
 
 -- ---- a line of one number
 
@@ -69,10 +47,10 @@ no_point : (row : ℕ) → row < row_count → width_of row ≡ 1 → eqb (kind_
 unfolding width_of ranges_of kind_of pick
 no_point row h w = other point_kind tt row h w
 
-no_list : (row : ℕ) → width_of row ≡ 1 → eqb (form_of row) list ≡ false
-no_list row w = split (eqb (form_of row) list) (λ t. absurd (omega (arith, list_wide row t, w))) (λ t. t)
+no_list : (row : ℕ) → width_of row ≡ 1 → is_list (form_of row) ≡ false
+no_list row w = split (is_list (form_of row)) (λ t. absurd (omega (arith, list_wide row t, w))) (λ t. t)
 
-no_rule : (v : List ℕ) (row line : ℕ) → row < row_count → width_of row ≡ 1 → rule_fault v row line ≡ Fine
+no_rule : (v : List ℕ) (row line : ℕ) → row < row_count → width_of row ≡ 1 → rule_fault v row line ≡ Ok tt
 unfolding rule_fault pick
 no_rule v row line h w = rw (no_phase row h w, no_point row h w, no_list row w) refl
 
@@ -81,10 +59,10 @@ only [] e = absurd (omega arith)
 only (r ∷ []) e = refl
 only (r ∷ q ∷ rs) e = absurd (omega arith)
 
-or_fine : (a : Answer) → or_else a Fine ≡ a
+or_fine : (a : Answer) → or_else a (Ok tt) ≡ a
 unfolding or_else
-or_fine Fine = refl
-or_fine (Refused r l) = refl
+or_fine (Ok _) = refl
+or_fine (Err d) = refl
 
 both_true : (b : Bool) → pick b true false ≡ b
 unfolding pick
@@ -104,14 +82,14 @@ module _ (v : List ℕ) (row line : ℕ) (h : row < row_count) (w : width_of row
   one_fault_lem = rw (no_rule v row line h w, no_list row w, in_one (ranges_of row) w) (or_fine (unless (in_range (range_of row 0) number) OutOfRange line))
 
   module _ (least most : ℕ) (low : least ≡ (range_of row 0).least) (high : most ≡ (range_of row 0).most) where
-    pub too_small : number < least → Refused OutOfRange line ≡ row_fault v row line
+    pub too_small : number < least → refused OutOfRange line ≡ row_fault v row line
     unfolding in_range pick
     too_small b = sym (one_fault_lem ∙ fails _ _ _ (rw (← low, lt-leb least number b) refl))
 
-    pub too_large : least ≤ number → most < number → Refused OutOfRange line ≡ row_fault v row line
+    pub too_large : least ≤ number → most < number → refused OutOfRange line ≡ row_fault v row line
     unfolding in_range pick
     too_large a b = sym (one_fault_lem ∙ fails _ _ _ (rw (← low, ← high, le-leb least number a, lt-leb number most b) refl))
 
-    pub inside : least ≤ number → number ≤ most → Fine ≡ row_fault v row line
+    pub inside : least ≤ number → number ≤ most → (Ok tt) ≡ row_fault v row line
     unfolding in_range pick
     inside a b = sym (one_fault_lem ∙ holds _ _ _ (rw (← low, ← high, le-leb least number a, le-leb number most b) refl))

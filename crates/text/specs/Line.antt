@@ -1,22 +1,22 @@
 -- A line of the text: its key, its numbers in the form that the table has for it, and a line feed.
-use Rattle.std.specs.Prelude.{ℕ, zero, suc, ◌+◌, ◌-◌, List, Bool, true, false, get_or, set, eqb}
+use Rattle.std.specs.Prelude.{ℕ, zero, suc, ◌+◌, ◌-◌, List, Bool, true, false, get_or, set, eqb, Option, Some, None}
 use Rattle.units.specs.Numbers.{pick}
-use Rattle.rows.specs.Table.{worded, signed, list, key_of, form_of, place_of, width_of}
+use Rattle.rows.specs.declared.table.Form.{Form}
+use Rattle.rows.specs.Table.{is_signed, is_worded, is_list, key_of, form_of, place_of, width_of}
 use Rattle.rows.specs.Marks.{mark_of, line_feed, word_of}
 use Rattle.figures.specs.declared.Figure.{Figure}
-use Rattle.figures.specs.declared.Figure.TheVariants.{Bad, Is}
-use Rattle.figures.specs.Figures.{on_place, on_figure, number_at, after_at, signed_at}
+use Rattle.figures.specs.Figures.{is, on_place, on_figure, number_at, after_at, signed_at}
 
 -- the number x where its word stands, else what the other words give
-abbrev pub named_at : List ℕ → ℕ → ℕ → Figure → Figure
-named_at s at x other = on_place (after_at s at (word_of x)) (λ p. Is x p) other
+abbrev pub named_at : List ℕ → ℕ → ℕ → Option Figure → Option Figure
+named_at s at x other = on_place (after_at s at (word_of x)) (λ p. is x p) other
 
 -- "car, su, bus, wb50"; "Another vehicle word is refused 1"
-unfoldable pub word_at : List ℕ → ℕ → Figure
-word_at s at = named_at s at 0 (named_at s at 1 (named_at s at 2 (named_at s at 3 Bad)))
+unfoldable pub word_at : List ℕ → ℕ → Option Figure
+word_at s at = named_at s at 0 (named_at s at 1 (named_at s at 2 (named_at s at 3 None)))
 
-unfoldable pub field_at : List ℕ → ℕ → ℕ → Figure
-field_at s at form = pick (eqb form worded) (word_at s at) (pick (eqb form signed) (signed_at s at) (number_at s at))
+unfoldable pub field_at : List ℕ → ℕ → Form → Option Figure
+field_at s at form = pick (is_worded form) (word_at s at) (pick (is_signed form) (signed_at s at) (number_at s at))
 
 -- what was read of a line: whether it is well made, the place past it, and the numbers with its own stored
 pub record Taken : Type 0 where
@@ -33,8 +33,13 @@ bad v = so_far false 0 v
 abbrev pub good : ℕ → List ℕ → Taken
 good p v = so_far true p v
 
+-- the same by the place past it, which there is where it is well made
+abbrev pub taken : Option ℕ → List ℕ → Taken
+taken (Some p) v = good p v
+taken None v = bad v
+
 -- n numbers of that form from number j of a line on, each after its mark, stored in v from `place` on
-unfoldable pub fields : List ℕ → ℕ → ℕ → ℕ → ℕ → ℕ → List ℕ → Taken
+unfoldable pub fields : List ℕ → Form → ℕ → ℕ → ℕ → ℕ → List ℕ → Taken
 fields s form place zero j p v = good p v
 fields s form place (suc n) j p v =
     on_place (after_at s p (mark_of j))
@@ -58,8 +63,8 @@ list_fields s place (suc n) k p v =
     (pick (eqb k 0) (bad v) (list_end place k p v))
 
 -- the numbers of a line by its form, with room for n from `place` on: of a list the first is how many they are, which the text does not say
-unfoldable pub values_at : List ℕ → ℕ → ℕ → ℕ → ℕ → List ℕ → Taken
-values_at s form place n p v = pick (eqb form list) (list_fields s place (n - 1) 0 p v) (fields s form place n 0 p v)
+unfoldable pub values_at : List ℕ → Form → ℕ → ℕ → ℕ → List ℕ → Taken
+values_at s form place n p v = pick (is_list form) (list_fields s place (n - 1) 0 p v) (fields s form place n 0 p v)
 
 -- "each ended by a line feed"
 abbrev pub ended : List ℕ → Taken → Taken

@@ -2,7 +2,8 @@
 use Rattle.std.specs.Prelude.{ℕ, zero, suc, ◌+◌, ◌-◌, ◌%◌, min, List, [], ◌++◌, get_or, ltb, eqb}
 use Rattle.units.specs.Numbers.{pick}
 use Rattle.sheet.specs.declared.Sheet.{Sheet}
-use Rattle.rows.specs.Table.{bytes, row_count, plain, worded, signed, list, key_of, form_of, place_of, width_of, present}
+use Rattle.rows.specs.declared.table.Form.{Form}
+use Rattle.rows.specs.Table.{is_signed, is_worded, is_list, bytes, row_count, plain, key_of, form_of, place_of, width_of, present}
 use Rattle.rows.specs.Marks.{mark_of, minus, line_feed, word_of}
 use Rattle.numbers.specs.Flat.{flat_of}
 use Rattle.text.specs.Digits.{digits}
@@ -15,11 +16,11 @@ figures x = digits (x % 1000000)
 unfoldable pub signed_text : ℕ → List ℕ
 signed_text x = pick (ltb x 1000000) (minus ++ figures (1000000 - x)) (figures (x - 1000000))
 
-unfoldable pub field_text : ℕ → ℕ → List ℕ
-field_text form x = pick (eqb form worded) (word_of x) (pick (eqb form signed) (signed_text x) (figures x))
+unfoldable pub field_text : Form → ℕ → List ℕ
+field_text form x = pick (is_worded form) (word_of x) (pick (is_signed form) (signed_text x) (figures x))
 
 -- n numbers of that form from number j of a line on, which stand in v from `place` on
-unfoldable pub fields_text : ℕ → ℕ → ℕ → ℕ → List ℕ → List ℕ
+unfoldable pub fields_text : Form → ℕ → ℕ → ℕ → List ℕ → List ℕ
 fields_text form place zero j v = []
 fields_text form place (suc n) j v = mark_of j ++ (field_text form (get_or v (place + j) 0) ++ fields_text form place n (j + 1) v)
 
@@ -28,8 +29,8 @@ unfoldable pub list_text : ℕ → ℕ → List ℕ → List ℕ
 list_text place most v = pick (eqb (get_or v place 0) 0) (bytes "=0") (fields_text plain (place + 1) (min (get_or v place 0) most) 0 v)
 
 -- the numbers of a line by its form, which has room for n from `place` on
-unfoldable pub values_text : ℕ → ℕ → ℕ → List ℕ → List ℕ
-values_text form place n v = pick (eqb form list) (list_text place (n - 1) v) (fields_text form place n 0 v)
+unfoldable pub values_text : Form → ℕ → ℕ → List ℕ → List ℕ
+values_text form place n v = pick (is_list form) (list_text place (n - 1) v) (fields_text form place n 0 v)
 
 unfoldable pub row_text : ℕ → List ℕ → List ℕ
 row_text row v = key_of row ++ (values_text (form_of row) (place_of row) (width_of row) v ++ line_feed)

@@ -4,14 +4,16 @@
 
 use sheet::{Answer, Sheet};
 
-// The answer to a text, and its sheet, which is the zero sheet where the answer is a refusal.
+// The answer to a text, and its sheet, which is the zero sheet where the answer is a refusal. This is no Result, since a refused read has its zero sheet too: the
+// contracts of `reader::read` and `reader::read_older` and the theorem RefusedIsZero hold the pair.
 #[derive(Clone, Copy)]
 pub struct Reading {
     pub answer: Answer,
     pub sheet: Sheet,
 }
 
-// The answer to writing a sheet, and the text's length, which is 0 where the answer is a refusal.
+// The answer to writing a sheet, and the text's length, which is 0 where the answer is a refusal. This is no Result, since a refused write has its 0 too: the
+// contracts of `writer::write` and `converter::convert` hold the pair.
 #[derive(Clone, Copy)]
 pub struct Written {
     pub answer: Answer,

@@ -5,17 +5,15 @@ use mathlib.Core.List.{List, [], ◌++◌, append_assoc}
 use mathlib.Core.Bool.{Bool, true, false}
 use native.Mathlib.Omega.{arith}
 use lib.ListN.{length, get_or, drop, set, length-append, length-drop}
-use lib.Dec.{eqb}
 use borrow.Author.Tests.{eq-eqb}
 use Rattle.units.specs.Numbers.{pick}
 use Rattle.units.proofs.Steps.{split, never}
-use Rattle.sheet.specs.declared.Answer.TheVariants.{Fine}
+use Rattle.std.specs.Prelude.{Ok, None}
 use Rattle.sheet.proofs.Answers.{both_fine}
-use Rattle.rows.specs.Table.{list, row_for, place_for, row_count, number_count, key_of, kind_of, form_of, ranges_of, width_of, place_of, present}
+use Rattle.rows.specs.Table.{is_list, row_for, place_for, row_count, number_count, key_of, kind_of, form_of, ranges_of, width_of, place_of, present}
 use Rattle.rows.specs.Marks.{mark_of, line_feed}
 use Rattle.rows.proofs.Tables.{place_room, place_past, width_some}
 use Rattle.faults.specs.Lines.{row_fault, here_fault, line_after, fault_from}
-use Rattle.figures.specs.declared.Place.TheVariants.{Nowhere}
 use Rattle.figures.specs.Figures.{after, after_at}
 use Rattle.text.specs.Line.{Taken, bad, good, list_fields, values_at, line_at}
 use Rattle.text.specs.Read.{step, judged_at, end_at, begins, passed, stands_for, filled, here_at, lines_from, lines_of, may_lack}
@@ -32,19 +30,19 @@ use Rattle.trips.proofs.Forth.{part, part_at, part_long, part_set, part_over, pa
 
 -- ---- the end
 
-end_read : (s : List ℕ) (line at : ℕ) (v : List ℕ) → at ≤ length s → drop at s ≡ [] → end_at s line at v ≡ step Fine (length s) v
+end_read : (s : List ℕ) (line at : ℕ) (v : List ℕ) → at ≤ length s → drop at s ≡ [] → end_at s line at v ≡ step (Ok tt) (length s) v
 unfolding end_at pick
 end_read s line at v h e =
     let n : length s - at ≡ 0 = sym (length-drop at s) ∙ ap length e in
     let q : at ≡ length s = omega arith in
-    rw (eq-eqb at (length s) q) (ap (λ (p : ℕ). step Fine p v) q)
+    rw (eq-eqb at (length s) q) (ap (λ (p : ℕ). step (Ok tt) p v) q)
 
 -- ---- a line that is there begins with its key
 
-no_values : (s : List ℕ) (row p : ℕ) (v : List ℕ) → row < row_count → after_at s p (mark_of 0) ≡ Nowhere → values_at s (form_of row) (place_of row) (width_of row) p v ≡ bad v
+no_values : (s : List ℕ) (row p : ℕ) (v : List ℕ) → row < row_count → after_at s p (mark_of 0) ≡ None → values_at s (form_of row) (place_of row) (width_of row) p v ≡ bad v
 unfolding values_at list_fields pick
 no_values s row p v h a =
-    split (eqb (form_of row) list)
+    split (is_list (form_of row))
     (λ t. let e : width_of row - 1 ≡ suc (width_of row - 2) = omega (arith, list_wide row t) in rw (t, e, a))
     (λ t. rw t (sym (first_no_mark s (form_of row) (place_of row) (width_of row) p v (omega (arith, width_some row h)) a)))
 
@@ -70,11 +68,11 @@ rest_there gone v row h g a =
     let e : row_count - row ≡ suc (row_count - (row + 1)) = omega arith in
     rw (e, g, a) (append_assoc (key_of row) (values_text (form_of row) (place_of row) (width_of row) v ++ line_feed) (Rest gone v (row + 1)))
 
-after_grade2 : (at : ℕ) (l : List ℕ) → after at (key_of (row_for "grade2")) (key_of (row_for "l01") ++ l) ≡ Nowhere
+after_grade2 : (at : ℕ) (l : List ℕ) → after at (key_of (row_for "grade2")) (key_of (row_for "l01") ++ l) ≡ None
 unfolding after key_of kind_of pick
 after_grade2 at l = refl
 
-after_dwell : (at : ℕ) (l : List ℕ) → after at (key_of (row_for "dwell")) (key_of (row_for "l18") ++ l) ≡ Nowhere
+after_dwell : (at : ℕ) (l : List ℕ) → after at (key_of (row_for "dwell")) (key_of (row_for "l18") ++ l) ≡ None
 unfolding after key_of kind_of pick
 after_dwell at l = refl
 
@@ -122,7 +120,7 @@ module _ (older : Bool) (gone : ℕ → Bool) (v : List ℕ) (sp : Spare older g
     same : present (part v (place_of row)) row ≡ present v row
     same = present_below row v (part v (place_of row)) h (λ m g. part_at v (place_of row) m (omega (arith, place_room row h)) g)
 
-    read_gone : gone row ≡ true → present v row ≡ true → drop at s ≡ Rest gone v (row + 1) → here_at (may_lack older) s at row line (part v (place_of row)) ≡ step Fine at (part v (place_of (row + 1)))
+    read_gone : gone row ≡ true → present v row ≡ true → drop at s ≡ Rest gone v (row + 1) → here_at (may_lack older) s at row line (part v (place_of row)) ≡ step (Ok tt) at (part v (place_of (row + 1)))
     unfolding here_at passed filled pick
     read_gone g a e =
         let n = place_next row in
@@ -131,28 +129,28 @@ module _ (older : Bool) (gone : ℕ → Bool) (v : List ℕ) (sp : Spare older g
         ap (λ (x : ℕ). set (part v (place_of row)) (place_of row) x) (still row h hv g ∙ sym (sp.same row g)) ∙ part_set v (place_of row) hv (omega (arith, place_room row h, width_some row h)) in
         let over : part v (place_of row + 1) ≡ part v (place_of row + width_of row) =
         part_over v (place_of row + 1) (place_of row + width_of row) hv (omega (arith, width_some row h)) (place_room row h) (λ m i j. c m (omega (arith, held_here v row a, one_used row h g)) j) in
-        rw (same, a, sp.may row g, b, n) (ap (λ (x : List ℕ). step Fine at x) (stored ∙ over))
+        rw (same, a, sp.may row g, b, n) (ap (λ (x : List ℕ). step (Ok tt) at x) (stored ∙ over))
 
-    read_there : (l : List ℕ) → present v row ≡ true → row_fault v row line ≡ Fine → drop at s ≡ row_text row v ++ l
-        → here_at (may_lack older) s at row line (part v (place_of row)) ≡ step Fine (at + length (row_text row v)) (part v (place_of (row + 1)))
+    read_there : (l : List ℕ) → present v row ≡ true → row_fault v row line ≡ Ok tt → drop at s ≡ row_text row v ++ l
+        → here_at (may_lack older) s at row line (part v (place_of row)) ≡ step (Ok tt) (at + length (row_text row v)) (part v (place_of (row + 1)))
     unfolding here_at judged_at passed pick
     read_there l a f e =
         let n = place_next row in
         let r = line_read s at row v l hv h (told row v line h f (λ m i j. c m (omega (arith, held_here v row a)) j)) e in
         let b = good_begins s at row _ _ _ h r in
-        let g : row_fault (part v (place_of row + width_of row)) row line ≡ Fine = fault_below row line v (part v (place_of row + width_of row)) h (part_long v (place_of row + width_of row) hv (place_room row h) ∙ sym hv) (λ m b. part_at v (place_of row + width_of row) m (omega (arith, place_room row h)) b) ∙ f in
+        let g : row_fault (part v (place_of row + width_of row)) row line ≡ (Ok tt) = fault_below row line v (part v (place_of row + width_of row)) h (part_long v (place_of row + width_of row) hv (place_room row h) ∙ sym hv) (λ m b. part_at v (place_of row + width_of row) m (omega (arith, place_room row h)) b) ∙ f in
         split (may_lack older row) (λ m. rw (same, a, m, b, r, g, n)) (λ m. rw (same, a, m, r, g, n))
 
-    read_past : present v row ≡ false → here_at (may_lack older) s at row line (part v (place_of row)) ≡ step Fine at (part v (place_of (row + 1)))
+    read_past : present v row ≡ false → here_at (may_lack older) s at row line (part v (place_of row)) ≡ step (Ok tt) at (part v (place_of (row + 1)))
     unfolding here_at passed filled pick
     read_past a =
         let n = place_next row in
         let p : part v (place_of row) ≡ part v (place_of row + width_of row) = part_over v (place_of row) (place_of row + width_of row) hv (omega arith) (place_room row h) (λ m i j. c m (omega (arith, held_none v row a)) j) in
-        rw (same, a, n) (ap (λ (x : List ℕ). step Fine at x) p)
+        rw (same, a, n) (ap (λ (x : List ℕ). step (Ok tt) at x) p)
 
     -- whichever it is
-    read_here : (l : ℕ) → here_fault v row l ≡ Fine → drop at s ≡ pick (gone row) [] (here_text row v) ++ Rest gone v (row + 1)
-        → here_at (may_lack older) s at row line (part v (place_of row)) ≡ step Fine (at + length (pick (gone row) [] (here_text row v))) (part v (place_of (row + 1)))
+    read_here : (l : ℕ) → here_fault v row l ≡ Ok tt → drop at s ≡ pick (gone row) [] (here_text row v) ++ Rest gone v (row + 1)
+        → here_at (may_lack older) s at row line (part v (place_of row)) ≡ step (Ok tt) (at + length (pick (gone row) [] (here_text row v))) (part v (place_of (row + 1)))
     unfolding here_fault here_text pick
     read_here l f e =
         let z : at + 0 ≡ at = omega arith in
@@ -164,8 +162,8 @@ module _ (older : Bool) (gone : ℕ → Bool) (v : List ℕ) (sp : Spare older g
 
   -- ---- all rows
 
-  lines_read : (s : List ℕ) (n row line l at : ℕ) → n + row ≡ row_count → length v ≡ number_count → Clear 0 v → fault_from v n row l ≡ Fine → at ≤ length s
-      → drop at s ≡ text_less gone v n row → lines_from (may_lack older) s n row line at (part v (place_of row)) ≡ step Fine (length s) v
+  lines_read : (s : List ℕ) (n row line l at : ℕ) → n + row ≡ row_count → length v ≡ number_count → Clear 0 v → fault_from v n row l ≡ Ok tt → at ≤ length s
+      → drop at s ≡ text_less gone v n row → lines_from (may_lack older) s n row line at (part v (place_of row)) ≡ step (Ok tt) (length s) v
   unfolding lines_from fault_from text_less pick
   lines_read s zero row line l at n hv c f h e =
       let q : place_of row ≡ number_count = place_past row (omega arith) in
@@ -182,7 +180,7 @@ module _ (older : Bool) (gone : ℕ → Bool) (v : List ℕ) (sp : Spare older g
       (past s at t (text_less gone v k (row + 1)) e))
 
   -- the text of numbers without a fault, 0 in the rows that they have not, is read as those numbers
-  pub text_read : length v ≡ number_count → Clear 0 v → fault_from v row_count 0 1 ≡ Fine → lines_of (may_lack older) (text_less gone v row_count 0) ≡ step Fine (length (text_less gone v row_count 0)) v
+  pub text_read : length v ≡ number_count → Clear 0 v → fault_from v row_count 0 1 ≡ Ok tt → lines_of (may_lack older) (text_less gone v row_count 0) ≡ step (Ok tt) (length (text_less gone v row_count 0)) v
   unfolding part place_of
   text_read hv c f = lines_read (text_less gone v row_count 0) row_count 0 1 1 0 refl hv c f (omega arith) refl
 

@@ -14,7 +14,8 @@ use Rattle.units.proofs.Steps.{split}
 use Rattle.units.proofs.Tested.{also, also_left, also_right, given, given_then, at}
 use Rattle.sheet.specs.declared.Refusal.TheVariants.{OutOfRange, PhasesDontRise, PointsDontRise}
 use Rattle.sheet.specs.Refusals.{or_else, unless}
-use Rattle.rows.specs.Table.{place_for, first_phase, first_point, row_count, plain, list, Range, kind_of, form_of, ranges_of, width_of, place_of, used_ranges, in_ranges, present, phase_kind, point_kind}
+use Rattle.rows.specs.declared.table.Form.{Form}
+use Rattle.rows.specs.Table.{is_list, place_for, first_phase, first_point, row_count, plain, Range, kind_of, form_of, ranges_of, width_of, place_of, used_ranges, in_ranges, present, phase_kind, point_kind}
 use Rattle.numbers.specs.Flat.{phase_place, point_place, phase_at, point_at}
 use Rattle.faults.specs.Lines.{phase_fault, starts_at_zero, point_rises, before_phase, point_fits, list_at, rises_after, rule_fault, row_fault}
 use Rattle.faults.proofs.Sound.{phase_place_lem, point_place_lem}
@@ -33,22 +34,22 @@ Within from to v w = (m : ℕ) → from ≤ m → m < to → get_or w m 0 ≡ ge
 abbrev pub used : List ℕ → ℕ → ℕ
 used v row = length (used_ranges v row)
 
-pub used_all : (v : List ℕ) (row : ℕ) → eqb (form_of row) list ≡ false → used v row ≡ width_of row
+pub used_all : (v : List ℕ) (row : ℕ) → is_list (form_of row) ≡ false → used v row ≡ width_of row
 unfolding used_ranges width_of pick
 used_all v row e = rw e
 
-pub used_list : (v : List ℕ) (row : ℕ) → eqb (form_of row) list ≡ true → used v row ≡ min (1 + get_or v (place_of row) 0) (width_of row)
+pub used_list : (v : List ℕ) (row : ℕ) → is_list (form_of row) ≡ true → used v row ≡ min (1 + get_or v (place_of row) 0) (width_of row)
 unfolding used_ranges width_of pick
 used_list v row e = rw e (length-take (1 + get_or v (place_of row) 0) (ranges_of row))
 
 pub used_few : (v : List ℕ) (row : ℕ) → used v row ≤ width_of row
 used_few v row =
-    split (eqb (form_of row) list) (λ t. omega (arith, used_list v row t)) (λ t. omega (arith, used_all v row t))
+    split (is_list (form_of row)) (λ t. omega (arith, used_list v row t)) (λ t. omega (arith, used_all v row t))
 
 abbrev pub Row : ℕ → List ℕ → List ℕ → Type 0
 Row row v w = Within (place_of row) (place_of row + used v row) v w
 
-count_agree : (row : ℕ) (v w : List ℕ) → Row row v w → eqb (form_of row) list ≡ true → get_or w (place_of row) 0 ≡ get_or v (place_of row) 0
+count_agree : (row : ℕ) (v w : List ℕ) → Row row v w → is_list (form_of row) ≡ true → get_or w (place_of row) 0 ≡ get_or v (place_of row) 0
 count_agree row v w a t = a (place_of row) (omega arith) (omega (arith, used_list v row t, list_wide row t))
 
 pub place_next : (row : ℕ) → place_of (row + 1) ≡ place_of row + width_of row
@@ -57,7 +58,7 @@ place_next row = rw (add-one row)
 
 -- ---- the text of a row
 
-text_agree : (form place n j : ℕ) (v w : List ℕ) → Within (place + j) (place + j + n) v w → fields_text form place n j w ≡ fields_text form place n j v
+text_agree : (form : Form) (place n j : ℕ) (v w : List ℕ) → Within (place + j) (place + j + n) v w → fields_text form place n j w ≡ fields_text form place n j v
 unfolding fields_text
 text_agree form place zero j v w a = refl
 text_agree form place (suc n) j v w a =
@@ -66,7 +67,7 @@ text_agree form place (suc n) j v w a =
 values_agree : (row : ℕ) (v w : List ℕ) → Row row v w → values_text (form_of row) (place_of row) (width_of row) w ≡ values_text (form_of row) (place_of row) (width_of row) v
 unfolding values_text list_text pick
 values_agree row v w a =
-    split (eqb (form_of row) list)
+    split (is_list (form_of row))
     (λ t.
     let n = min (get_or v (place_of row) 0) (width_of row - 1) in
     rw (t, count_agree row v w a t, text_agree plain (place_of row + 1) n 0 v w (λ m g l. a m (omega arith) (omega (arith, used_list v row t, list_wide row t)))))
@@ -146,7 +147,7 @@ point_agree i v w a =
     λ d. record { feet = a (point_place i) (omega arith) (omega arith) d; tenths = a (point_place i + 1) (omega arith) (omega arith) d }
 
 -- the numbers of a list
-pub list_agree : (row : ℕ) (v w : List ℕ) → length w ≡ length v → Row row v w → eqb (form_of row) list ≡ true → list_at w row ≡ list_at v row
+pub list_agree : (row : ℕ) (v w : List ℕ) → length w ≡ length v → Row row v w → is_list (form_of row) ≡ true → list_at w row ≡ list_at v row
 list_agree row v w long a t =
     let n = get_or v (place_of row) 0 in
     let most = width_of row - 1 in
@@ -162,7 +163,7 @@ list_agree row v w long a t =
 
 -- the row's phase or point and the one before it, or its list
 pub rule_agree : (row line : ℕ) (v w : List ℕ) → (kind_of row ≡ phase_kind → (phase_at w (row - first_phase) ≡ phase_at v (row - first_phase)) × (before_phase w (row - first_phase) ≡ before_phase v (row - first_phase)))
-    → (kind_of row ≡ point_kind → point_fits w (row - first_point) ≡ point_fits v (row - first_point)) → (eqb (form_of row) list ≡ true → list_at w row ≡ list_at v row)
+    → (kind_of row ≡ point_kind → point_fits w (row - first_point) ≡ point_fits v (row - first_point)) → (is_list (form_of row) ≡ true → list_at w row ≡ list_at v row)
     → rule_fault w row line ≡ rule_fault v row line
 unfolding rule_fault pick
 rule_agree row line v w a b c =
@@ -170,14 +171,14 @@ rule_agree row line v w a b c =
     (λ t. let e = a (eqb-true (kind_of row) phase_kind t) in rw t (λ d. phase_fault (e.1 d) (e.0 d) line))
     (λ t. split (eqb (kind_of row) point_kind)
     (λ t₁. rw (t, t₁) (ap (λ (x : Bool). unless x PointsDontRise line) (b (eqb-true (kind_of row) point_kind t₁))))
-    (λ t₁. split (eqb (form_of row) list)
+    (λ t₁. split (is_list (form_of row))
     (λ t₂. rw (t, t₁, t₂) (ap (λ (ns : List ℕ). unless (rises_after 0 ns) PhasesDontRise line) (c t₂)))
     (λ t₂. rw (t, t₁, t₂))))
 
 pub used_agree : (row : ℕ) (v w : List ℕ) → Row row v w → used_ranges w row ≡ used_ranges v row
 unfolding used_ranges pick
 used_agree row v w a =
-    split (eqb (form_of row) list)
+    split (is_list (form_of row))
     (λ t. rw t (ap (λ (n : ℕ). take (1 + n) (ranges_of row)) (count_agree row v w a t)))
     (λ t. rw t)
 

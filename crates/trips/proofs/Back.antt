@@ -10,22 +10,20 @@ use lib.Dec.{ltb, eqb}
 use borrow.Author.Tests.{eqb-true, eqb-false, ne_eqb, ltb-true, ltb-false}
 use Rattle.units.specs.Numbers.{pick}
 use Rattle.units.proofs.Steps.{split, never}
-use Rattle.sheet.specs.declared.Answer.TheVariants.{Fine}
+use Rattle.std.specs.Prelude.{Ok, Some}
 use Rattle.sheet.specs.Refusals.{is_fine}
-use Rattle.sheet.proofs.Answers.{is_fine_lem}
-use Rattle.rows.specs.Table.{row_count, plain, list, form_of, key_of, width_of, place_of, present}
+use Rattle.rows.specs.declared.table.Form.{Form}
+use Rattle.rows.specs.Table.{is_list, row_count, plain, form_of, key_of, width_of, place_of, present}
 use Rattle.rows.specs.Marks.{mark_of, line_feed}
 use Rattle.faults.specs.Lines.{row_fault}
 use Rattle.text.specs.Line.{Taken}
 use Rattle.text.specs.Read.{Step}
-use Rattle.figures.specs.declared.Figure.TheVariants.{Is}
-use Rattle.figures.specs.declared.Place.TheVariants.{At}
-use Rattle.figures.specs.Figures.{after_at, number_at}
+use Rattle.figures.specs.Figures.{is, after_at, number_at}
 use Rattle.text.specs.Line.{field_at, bad, good, fields, list_count, list_end, list_fields, values_at, ended, line_at}
 use Rattle.text.specs.Read.{judged_at}
 use Rattle.text.specs.Digits.{digits_in}
 use Rattle.text.specs.Text.{field_text, fields_text, list_text, values_text, row_text}
-use Rattle.text.proofs.Cases.{by_place, by_figure, plain_field}
+use Rattle.text.proofs.Cases.{past_fine, by_place, by_figure, plain_field}
 use Rattle.text.proofs.Rows.{list_wide}
 use Rattle.trips.proofs.Cuts.{Cut, cut_then, cut_same}
 use Rattle.trips.proofs.Figures.{after_back}
@@ -57,7 +55,7 @@ after_set v w a x to h ht st = (
   st.before a (omega arith) ∙ get_or-set_same v a x 0 h,
 )
 
-fields_back : (s : List ℕ) (form place n j p : ℕ) (v : List ℕ) (q : ℕ) (w : List ℕ) → place + j + n ≤ length v → fields s form place n j p v ≡ good q w
+fields_back : (s : List ℕ) (form : Form) (place n j p : ℕ) (v : List ℕ) (q : ℕ) (w : List ℕ) → place + j + n ≤ length v → fields s form place n j p v ≡ good q w
     → Read s v w p q (fields_text form place n j w) (place + j) (place + j + n)
 unfolding fields fields_text
 fields_back s form place zero j p v q w h e =
@@ -112,7 +110,7 @@ list_over s place n k p v q w o h e =
       long = ap length (sym ev) ∙ length-set v place c;
     }
 
-list_next : (s : List ℕ) (place n k p r x t : ℕ) (v : List ℕ) (q : ℕ) (w : List ℕ) → place + 1 + k < length v → after_at s p (mark_of k) ≡ At r → number_at s r ≡ Is x t
+list_next : (s : List ℕ) (place n k p r x t : ℕ) (v : List ℕ) (q : ℕ) (w : List ℕ) → place + 1 + k < length v → after_at s p (mark_of k) ≡ Some r → number_at s r ≡ is x t
     → Listed s (set v (place + 1 + k) x) w place n (k + 1) t q → Listed s v w place (suc n) k p q
 unfolding fields_text
 list_next s place n k p r x t v q w h a b l =
@@ -171,7 +169,7 @@ record Values (s v w : List ℕ) (row p q : ℕ) : Type 0 where
   read : Read s v w p q (values_text (form_of row) (place_of row) (width_of row) w) (place_of row) (place_of row + width_of row)
   bare : ((m : ℕ) → place_of row ≤ m → get_or v m 0 ≡ 0) → (m : ℕ) → place_of row + used w row ≤ m → m < place_of row + width_of row → get_or w m 0 ≡ 0
 
-list_values : (s : List ℕ) (row p : ℕ) (v : List ℕ) (q : ℕ) (w : List ℕ) → eqb (form_of row) list ≡ true → place_of row + width_of row ≤ length v → list_fields s (place_of row) (width_of row - 1) 0 p v ≡ good q w → Values s v w row p q
+list_values : (s : List ℕ) (row p : ℕ) (v : List ℕ) (q : ℕ) (w : List ℕ) → is_list (form_of row) ≡ true → place_of row + width_of row ≤ length v → list_fields s (place_of row) (width_of row - 1) 0 p v ≡ good q w → Values s v w row p q
 unfolding values_text pick
 list_values s row p v q w t h e =
     let wide = list_wide row t in
@@ -194,7 +192,7 @@ list_values s row p v q w t h e =
 values_back : (s : List ℕ) (row p : ℕ) (v : List ℕ) (q : ℕ) (w : List ℕ) → place_of row + width_of row ≤ length v → values_at s (form_of row) (place_of row) (width_of row) p v ≡ good q w → Values s v w row p q
 unfolding values_at values_text pick
 values_back s row p v q w h e =
-    split (eqb (form_of row) list)
+    split (is_list (form_of row))
     (λ t. list_values s row p v q w t h (rw t at e))
     (λ t.
     let z : place_of row + 0 ≡ place_of row = omega arith in
@@ -212,7 +210,7 @@ ended_back s t q w e =
     let e' : good r t.numbers ≡ good q w = rw (g, a) at e in
     let er : r ≡ q = ap (λ (x : Taken). x.next) e' in
     let ev : t.numbers ≡ w = ap (λ (x : Taken). x.numbers) e' in
-    (λ i. record { good = g i; next = t.next; numbers = ev i }, after_back s t.next q line_feed (a ∙ ap At er))))
+    (λ i. record { good = g i; next = t.next; numbers = ev i }, after_back s t.next q line_feed (a ∙ ap Some er))))
     (λ g. never (let e' : record { good = false; next = t.next; numbers = t.numbers } ≡ good q w = rw g at e in ap (λ (x : Taken). x.good) e'))
 
 pub record Line (s v w : List ℕ) (row at q : ℕ) : Type 0 where
@@ -236,7 +234,7 @@ line_back s at row v q w h e =
 -- a fine step: a well-made line without a fault
 pub record Good (s : List ℕ) (at row number : ℕ) (v : List ℕ) (t : Step) : Type 0 where
   pub line : line_at s at row v ≡ good t.next t.numbers
-  pub fine : row_fault t.numbers row number ≡ Fine
+  pub fine : row_fault t.numbers row number ≡ Ok tt
 
 pub judged_back : (s : List ℕ) (at row line : ℕ) (v : List ℕ) → is_fine (judged_at s at row line v).answer ≡ true → Good s at row line v (judged_at s at row line v)
 unfolding judged_at pick
@@ -244,8 +242,8 @@ judged_back s at row line v f =
     split (line_at s at row v).good
     (λ g.
     let t = line_at s at row v in
-    let f' : is_fine (row_fault t.numbers row line) ≡ true = rw g at f in
-    rw g (record { line = λ i. record { good = g i; next = t.next; numbers = t.numbers }; fine = is_fine_lem _ f' }))
+    let fine = past_fine (row_fault t.numbers row line) t.next t.numbers (rw g at f) in
+    rw (g, fine) (record { line = λ i. record { good = g i; next = t.next; numbers = t.numbers }; fine = fine }))
     (λ g. never (rw g at f))
 
 -- ---- all lines

@@ -10,7 +10,7 @@ use borrow.Author.Tests.{eqb-true, eqb-false, le-leb}
 use Rattle.units.specs.Numbers.{pick}
 use Rattle.units.proofs.Steps.{split, never, both_left, both_right}
 use Rattle.sheet.specs.declared.Sheet.{Sheet}
-use Rattle.sheet.specs.declared.Answer.TheVariants.{Fine}
+use Rattle.std.specs.Prelude.{Ok}
 use Rattle.sheet.specs.Refusals.{is_fine, or_else}
 use Rattle.sheet.proofs.Answers.{both_fine, holds, is_fine_lem}
 use Rattle.rows.specs.Table.{row_for, row_count, kind_of, ranges_of, absent_of, width_of, place_of}
@@ -78,7 +78,7 @@ each_form_is_taken no_grade2 no_dwell s g d h b e =
     let k = sound s e in
     let same : sheet_of (flat_of s) ≡ s = sheet_again s h.phases h.dwell h.points (graded _ k.grade) (graded _ k.grade2) in
     let t = text_read true (lacking no_grade2 no_dwell) (flat_of s) (spare no_grade2 no_dwell s g d) (flat_long s) (blank_clear s b) both.0 in
-    read_fine (may_lack true) (older_text no_grade2 no_dwell s) (flat_of s) _ t (ap whole_fault same ∙ both.1) ∙ ap (λ (x : Sheet). record { answer = Fine; sheet = x }) same
+    read_fine (may_lack true) (older_text no_grade2 no_dwell s) (flat_of s) _ t (ap whole_fault same ∙ both.1) ∙ ap (λ (x : Sheet). record { answer = Ok tt; sheet = x }) same
 
 -- ---- no other text
 
@@ -126,10 +126,10 @@ taken_is_a_form t e = let b = read_back true t e in subst (Form t) (sym b.sheet)
 pub older_is_accepted : OlderIsAccepted
 older_is_accepted t e = let b = read_back true t e in ap accept_of b.sheet ∙ b.accepted
 
-fine_reading : (r : Reading) (s : Sheet) → r.answer ≡ Fine → r.sheet ≡ s → record { answer = Fine; sheet = s } ≡ r
+fine_reading : (r : Reading) (s : Sheet) → r.answer ≡ Ok tt → r.sheet ≡ s → record { answer = Ok tt; sheet = s } ≡ r
 fine_reading r s a b = λ i. record { answer = sym a i; sheet = sym b i }
 
-module _ (older : Bool) (t : List ℕ) (e : (read_by (may_lack older) t).answer ≡ Fine) where
+module _ (older : Bool) (t : List ℕ) (e : (read_by (may_lack older) t).answer ≡ Ok tt) where
   again : (o : Bool) → read_by (may_lack o) (text_of (read_by (may_lack older) t).sheet) ≡ read_by (may_lack older) t
   again o =
       let b = read_back older t e in
@@ -138,7 +138,7 @@ module _ (older : Bool) (t : List ℕ) (e : (read_by (may_lack older) t).answer 
 pub converted_is_read : ConvertedIsRead
 converted_is_read t e = again true t e false
 
-today_text : (t : List ℕ) → (read_of t).answer ≡ Fine → text_of (read_of t).sheet ≡ t
+today_text : (t : List ℕ) → (read_of t).answer ≡ Ok tt → text_of (read_of t).sheet ≡ t
 today_text t e = let b = read_back false t e in ap text_of b.sheet ∙ back_text t _ b
 
 pub today_is_read : TodayIsRead
@@ -146,7 +146,7 @@ today_is_read t e = ap older_of (sym (today_text t e)) ∙ again false t e true
 
 -- ---- converting
 
-module _ (t : List ℕ) (s : Sheet) (e : older_of t ≡ record { answer = Fine; sheet = s }) where
+module _ (t : List ℕ) (s : Sheet) (e : older_of t ≡ record { answer = Ok tt; sheet = s }) where
   as_written : (room : ℕ) → converted_of t room ≡ written_of s room
   unfolding converted_of pick
   as_written room = ap (λ (r : Reading). pick (is_fine r.answer) (written_of r.sheet room) (record { answer = r.answer; length = 0 })) e
@@ -155,18 +155,18 @@ module _ (t : List ℕ) (s : Sheet) (e : older_of t ≡ record { answer = Fine; 
   unfolding converted_bytes pick
   as_bytes old = ap (λ (r : Reading). pick (is_fine r.answer) (bytes_of r.sheet old) old) e
 
-  with_room : (old : List ℕ) → accept_of s ≡ Fine → length (text_of s) ≤ length old
-      → (converted_of t (length old) ≡ record { answer = Fine; length = length (text_of s) }) × (converted_bytes t old ≡ text_of s ++ drop (length (text_of s)) old)
+  with_room : (old : List ℕ) → accept_of s ≡ Ok tt → length (text_of s) ≤ length old
+      → (converted_of t (length old) ≡ record { answer = Ok tt; length = length (text_of s) }) × (converted_bytes t old ≡ text_of s ++ drop (length (text_of s)) old)
   unfolding answer_to written_of bytes_of or_else pick
   with_room old a h =
-      let room : answer_to s (length old) ≡ Fine = rw a (holds _ _ _ (le-leb (length (text_of s)) (length old) h)) in
+      let room : answer_to s (length old) ≡ (Ok tt) = rw a (holds _ _ _ (le-leb (length (text_of s)) (length old) h)) in
       (as_written (length old) ∙ rw room, as_bytes old ∙ rw room)
 
 pub each_form_is_converted : EachFormIsConverted
 each_form_is_converted no_grade2 no_dwell s old g d h b e r =
     with_room (older_text no_grade2 no_dwell s) s (each_form_is_taken no_grade2 no_dwell s g d h b e) old e r
 
-whole_reading : (r : Reading) → r.answer ≡ Fine → r ≡ record { answer = Fine; sheet = r.sheet }
+whole_reading : (r : Reading) → r.answer ≡ Ok tt → r ≡ record { answer = Ok tt; sheet = r.sheet }
 whole_reading r e = sym (fine_reading r r.sheet e refl)
 
 pub today_comes_back : TodayComesBack
@@ -176,7 +176,7 @@ today_comes_back t old e h =
     let r = with_room t (read_of t).sheet taken old (read_is_accepted t e) (rw text h) in
     (r.0 ∙ rw text, r.1 ∙ rw text)
 
-refused_first : (t : List ℕ) (room : ℕ) → (converted_of t room).answer ≡ Fine → (older_of t).answer ≡ Fine
+refused_first : (t : List ℕ) (room : ℕ) → (converted_of t room).answer ≡ Ok tt → (older_of t).answer ≡ Ok tt
 unfolding converted_of pick
 refused_first t room e = split (is_fine (older_of t).answer) (λ a. is_fine_lem _ a) (λ a. rw a at e)
 
@@ -189,7 +189,7 @@ twice_is_once t old e =
     let bytes = as_bytes t s taken old in
     let out : take (converted_of t (length old)).length (converted_bytes t old) ≡ text_of s =
     (λ i. take (written i).length (bytes i)) ∙ written_is_text s old (ap (λ (w : Written). w.answer) (sym written) ∙ e) in
-    let same : older_of (text_of s) ≡ record { answer = Fine; sheet = s } = again true t fine true ∙ taken in (
+    let same : older_of (text_of s) ≡ record { answer = Ok tt; sheet = s } = again true t fine true ∙ taken in (
       ap (λ (x : List ℕ). converted_of x (length old)) out ∙ as_written (text_of s) s same (length old) ∙ sym written,
       ap (λ (x : List ℕ). converted_bytes x old) out ∙ as_bytes (text_of s) s same old ∙ sym bytes,
     )

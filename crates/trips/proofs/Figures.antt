@@ -6,12 +6,11 @@ use native.Mathlib.Omega.{arith}
 use lib.ListN.{length, drop, length-append}
 use lib.Dec.{ltb, eqb}
 use borrow.Author.Tests.{le-ltb, lt-ltb, eq-eqb, ltb-true, ltb-false, eqb-true}
+use Rattle.std.specs.Prelude.{Some, None}
 use Rattle.units.specs.Numbers.{pick}
 use Rattle.units.proofs.Steps.{split}
-use Rattle.figures.specs.declared.Figure.TheVariants.{Is}
-use Rattle.figures.specs.declared.Place.TheVariants.{Nowhere, At}
-use Rattle.figures.specs.Figures.{digit_of, more, number, after, number_at, after_at}
-use Rattle.figures.proofs.Small.{bad_is}
+use Rattle.figures.specs.Figures.{is, digit_of, more, number, after, number_at, after_at}
+use Rattle.figures.proofs.Small.{bad_is, same_value, same_next}
 use Rattle.text.specs.Digits.{digits_in, digits}
 use Rattle.text.proofs.Decimals.{ten, digits_more}
 use Rattle.trips.proofs.Cuts.{Begins, Cut, cut}
@@ -38,25 +37,25 @@ record Back (l : List ℕ) (w at v q : ℕ) : Type 0 where
   begins : Begins l at q m
   text : digits v ≡ digits w ++ m
 
-more_back : (l : List ℕ) (w at v q : ℕ) → w < 1000000 → more w at l ≡ Is v q → Back l w at v q
+more_back : (l : List ℕ) (w at v q : ℕ) → w < 1000000 → more w at l ≡ is v q → Back l w at v q
 unfolding more pick
 more_back [] w at v q h e =
-    let ew : w ≡ v = cc in
-    let eq : at ≡ q = cc in
+    let ew : w ≡ v = same_value e in
+    let eq : at ≡ q = same_next e in
     record { m = []; begins = record { rest = []; split = refl; place = omega arith }; text = rw (← ew) (sym (append-nil (digits w))) }
 more_back (b ∷ l) w at v q h e =
     split (ltb 9 (digit_of b))
     (λ t.
-    let e' : Is w at ≡ Is v q = rw t at e in
-    let ew : w ≡ v = cc in
-    let eq : at ≡ q = cc in
+    let e' : is w at ≡ is v q = rw t at e in
+    let ew : w ≡ v = same_value e' in
+    let eq : at ≡ q = same_next e' in
     record { m = []; begins = record { rest = b ∷ l; split = refl; place = omega arith }; text = rw (← ew) (sym (append-nil (digits w))) })
     (λ t. split (ltb w 1)
     (λ t₁. bad_is (rw (t, t₁) at e))
     (λ t₁. split (ltb 99999 w)
     (λ t₂. bad_is (rw (t, t₁, t₂) at e))
     (λ t₂.
-    let e' : more (w * 10 + digit_of b) (at + 1) l ≡ Is v q = rw (t, t₁, t₂) at e in
+    let e' : more (w * 10 + digit_of b) (at + 1) l ≡ is v q = rw (t, t₁, t₂) at e in
     let hd : digit_of b ≤ 9 = ltb-false 9 (digit_of b) t in
     let h₁ : 1 ≤ w = ltb-false w 1 t₁ in
     let h₂ : w ≤ 99999 = ltb-false 99999 w t₂ in
@@ -72,20 +71,20 @@ first : (d b : ℕ) (m : List ℕ) → d < 10 → 48 + d ≡ b → digits d ++ m
 unfolding digits_in pick
 first d b m h e = rw (lt-ltb d 10 h, e)
 
-number_begins : (l : List ℕ) (at v q : ℕ) → number at l ≡ Is v q → Begins l at q (digits v)
+number_begins : (l : List ℕ) (at v q : ℕ) → number at l ≡ is v q → Begins l at q (digits v)
 unfolding number pick
 number_begins [] at v q e = bad_is e
 number_begins (b ∷ l) at v q e =
     split (ltb 9 (digit_of b))
     (λ t. bad_is (rw t at e))
     (λ t.
-    let e' : more (digit_of b) (at + 1) l ≡ Is v q = rw t at e in
+    let e' : more (digit_of b) (at + 1) l ≡ is v q = rw t at e in
     let hd : digit_of b ≤ 9 = ltb-false 9 (digit_of b) t in
     let r = more_back l (digit_of b) (at + 1) v q (omega arith) e' in
     let ed : digits v ≡ b ∷ r.m = r.text ∙ first (digit_of b) b r.m (omega arith) (digit_byte b hd) in
     record { rest = r.begins.rest; split = rw ed (ap (λ (x : List ℕ). b ∷ x) r.begins.split); place = rw ed (omega (arith, r.begins.place)) })
 
-pub number_back : (s : List ℕ) (at v q : ℕ) → number_at s at ≡ Is v q → Cut s at q (digits v)
+pub number_back : (s : List ℕ) (at v q : ℕ) → number_at s at ≡ is v q → Cut s at q (digits v)
 number_back s at v q e = cut s at q (digits v) (number_begins (drop at s) at v q e)
 
 -- ---- the digits of a number are read back
@@ -111,20 +110,20 @@ number_on (suc f) n at l h k =
     rw (en, ep)))))
 
 -- a byte that is no digit stops a number
-stops : (v at c : ℕ) (l : List ℕ) → 9 < digit_of c → more v at (c ∷ l) ≡ Is v at
+stops : (v at c : ℕ) (l : List ℕ) → 9 < digit_of c → more v at (c ∷ l) ≡ is v at
 unfolding more pick
 stops v at c l h = rw (lt-ltb 9 (digit_of c) h)
 
 pub number_read : (s : List ℕ) (at n c : ℕ) (l : List ℕ) → n < 1000000 → 9 < digit_of c → drop at s ≡ digits n ++ c ∷ l
-    → number_at s at ≡ Is n (at + length (digits n))
+    → number_at s at ≡ is n (at + length (digits n))
 number_read s at n c l h k e = rw e (number_on 5 n at (c ∷ l) h h ∙ stops n (at + length (digits n)) c l k)
 
 -- ---- words
 
-nowhere_at : {q : ℕ} → Nowhere ≡ At q → ⊥
+nowhere_at : {q : ℕ} → None ≡ Some q → ⊥
 nowhere_at e = let z : ◌≡◌ {A = ℕ} 0 1 = cc in omega arith
 
-after_begins : (w l : List ℕ) (at q : ℕ) → after at w l ≡ At q → Begins l at q w
+after_begins : (w l : List ℕ) (at q : ℕ) → after at w l ≡ Some q → Begins l at q w
 unfolding after pick
 after_begins [] l at q e = let eq : at ≡ q = cc in record { rest = l; split = refl; place = omega arith }
 after_begins (c ∷ w) [] at q e = absurd (nowhere_at e)
@@ -135,13 +134,13 @@ after_begins (c ∷ w) (b ∷ l) at q e =
     record { rest = r.rest; split = rw (eqb-true b c t) (ap (λ (x : List ℕ). c ∷ x) r.split); place = omega (arith, r.place) })
     (λ t. absurd (nowhere_at (rw t at e)))
 
-pub after_back : (s : List ℕ) (at q : ℕ) (w : List ℕ) → after_at s at w ≡ At q → Cut s at q w
+pub after_back : (s : List ℕ) (at q : ℕ) (w : List ℕ) → after_at s at w ≡ Some q → Cut s at q w
 after_back s at q w e = cut s at q w (after_begins w (drop at s) at q e)
 
-after_on : (w l : List ℕ) (at : ℕ) → after at w (w ++ l) ≡ At (at + length w)
+after_on : (w l : List ℕ) (at : ℕ) → after at w (w ++ l) ≡ Some (at + length w)
 unfolding after pick
-after_on [] l at = ap At (omega arith)
-after_on (c ∷ w) l at = rw (eq-eqb c c refl) (after_on w l (at + 1) ∙ ap At (omega arith))
+after_on [] l at = ap Some (omega arith)
+after_on (c ∷ w) l at = rw (eq-eqb c c refl) (after_on w l (at + 1) ∙ ap Some (omega arith))
 
-pub after_read : (s : List ℕ) (at : ℕ) (w l : List ℕ) → drop at s ≡ w ++ l → after_at s at w ≡ At (at + length w)
+pub after_read : (s : List ℕ) (at : ℕ) (w l : List ℕ) → drop at s ≡ w ++ l → after_at s at w ≡ Some (at + length w)
 after_read s at w l e = rw e (after_on w l at)

@@ -12,17 +12,16 @@ use borrow.Author.Tests.{ne_eqb, eqb-true, eqb-false, ltb-true, ltb-false, le-lt
 use Rattle.units.specs.Numbers.{pick}
 use Rattle.units.proofs.Steps.{split}
 use Rattle.units.proofs.Tested.{also, also_left, also_right, given, given_then, at}
-use Rattle.sheet.specs.declared.Answer.TheVariants.{Fine}
+use Rattle.std.specs.Prelude.{Ok, Some, None}
 use Rattle.sheet.proofs.Answers.{both_fine, passes}
-use Rattle.rows.specs.Table.{row_count, number_count, kind_count, bytes, plain, list, Range, ◌to◌, kinds, none, form_of, key_of, kind_of, ranges_of, range_of, width_of, place_of, used_ranges}
+use Rattle.rows.specs.declared.table.Form.{Form}
+use Rattle.rows.specs.Table.{is_list, row_count, number_count, kind_count, bytes, plain, list, Range, ◌to◌, kinds, none, form_of, key_of, kind_of, ranges_of, range_of, width_of, place_of, used_ranges}
 use Rattle.rows.specs.Marks.{mark_of, line_feed}
-use Rattle.rows.proofs.Tables.{place_room, kind_few, for_each, kind_ranges, range_at}
+use Rattle.rows.proofs.Tables.{list_true, place_room, kind_few, for_each, kind_ranges, range_at}
 use Rattle.faults.specs.Lines.{row_fault}
 use Rattle.faults.specs.Ranges.{Between}
 use Rattle.faults.proofs.Rows.{in_each}
-use Rattle.figures.specs.declared.Place.TheVariants.{Nowhere, At}
-use Rattle.figures.specs.declared.Figure.TheVariants.{Is}
-use Rattle.figures.specs.Figures.{digit_of, after, number_at, after_at}
+use Rattle.figures.specs.Figures.{is, digit_of, after, number_at, after_at}
 use Rattle.text.specs.Line.{field_at, good, fields, list_count, list_end, list_fields, values_at, line_at}
 use Rattle.text.specs.Digits.{digits_in}
 use Rattle.text.specs.Text.{field_text, fields_text, list_text, values_text, row_text}
@@ -81,14 +80,14 @@ part_all v h = append-nil (take number_count v) ∙ take_all number_count v (ome
 -- ---- the numbers of a line
 
 -- after a number stands no digit
-after_field : (form place n j : ℕ) (v : List ℕ) (c : ℕ) (l : List ℕ) → 9 < digit_of c
+after_field : (form : Form) (place n j : ℕ) (v : List ℕ) (c : ℕ) (l : List ℕ) → 9 < digit_of c
     → (b : ℕ) × (r : List ℕ) × (9 < digit_of b) × (fields_text form place n (j + 1) v ++ c ∷ l ≡ b ∷ r)
 unfolding fields_text digit_of mark_of pick
 after_field form place zero j v c l h = (c, l, h, refl)
 after_field form place (suc n) j v c l h =
     (44, (field_text form (get_or v (place + (j + 1)) 0) ++ fields_text form place n (j + 1 + 1) v) ++ c ∷ l, omega arith, rw (le-ltb (j + 1) 1 (omega arith)))
 
-fields_read : (s : List ℕ) (form place n j p : ℕ) (v : List ℕ) (c : ℕ) (l : List ℕ) → length v ≡ number_count → place + j + n ≤ number_count
+fields_read : (s : List ℕ) (form : Form) (place n j p : ℕ) (v : List ℕ) (c : ℕ) (l : List ℕ) → length v ≡ number_count → place + j + n ≤ number_count
     → ((m : ℕ) → place + j ≤ m → m < place + j + n → Sayable form (get_or v m 0)) → 9 < digit_of c → drop p s ≡ fields_text form place n j v ++ c ∷ l
     → fields s form place n j p (part v (place + j)) ≡ good (p + length (fields_text form place n j v)) (part v (place + j + n))
 unfolding fields fields_text
@@ -104,9 +103,9 @@ fields_read s form place (suc n) j p v c l hv h d hc e =
     let p₂ = p₁ + length t in
     let nx = after_field form place n j v c l hc in
     let e₁ : drop p s ≡ mark_of j ++ (t ++ (r ++ c ∷ l)) = e ∙ append_assoc (mark_of j) (t ++ r) (c ∷ l) ∙ ap (λ (y : List ℕ). mark_of j ++ y) (append_assoc t r (c ∷ l)) in
-    let a : after_at s p (mark_of j) ≡ At p₁ = after_read s p (mark_of j) (t ++ (r ++ c ∷ l)) e₁ in
+    let a : after_at s p (mark_of j) ≡ Some p₁ = after_read s p (mark_of j) (t ++ (r ++ c ∷ l)) e₁ in
     let e₂ : drop p₁ s ≡ t ++ (r ++ c ∷ l) = past s p (mark_of j) (t ++ (r ++ c ∷ l)) e₁ in
-    let b : field_at s p₁ form ≡ Is x p₂ = field_read s p₁ form x nx.0 nx.1 (d (place + j) (omega arith) (omega arith)) nx.2 (e₂ ∙ ap (λ (y : List ℕ). t ++ y) nx.3) in
+    let b : field_at s p₁ form ≡ is x p₂ = field_read s p₁ form x nx.0 nx.1 (d (place + j) (omega arith) (omega arith)) nx.2 (e₂ ∙ ap (λ (y : List ℕ). t ++ y) nx.3) in
     let e₃ : drop p₂ s ≡ r ++ c ∷ l = past s p₁ t (r ++ c ∷ l) e₂ in
     let q₁ : place + (j + 1) ≡ place + j + 1 = omega arith in
     let q₂ : place + (j + 1) + n ≡ place + j + suc n = omega arith in
@@ -142,16 +141,16 @@ module _ (v : List ℕ) (place : ℕ) (hv : length v ≡ number_count) where
       ∙ set-get_or (part v m) place 0
 
 -- a line feed ends a list
-no_comma : (s : List ℕ) (k p : ℕ) (l : List ℕ) → 1 ≤ k → drop p s ≡ 10 ∷ l → after_at s p (mark_of k) ≡ Nowhere
+no_comma : (s : List ℕ) (k p : ℕ) (l : List ℕ) → 1 ≤ k → drop p s ≡ 10 ∷ l → after_at s p (mark_of k) ≡ None
 unfolding after pick
 no_comma s k p l o e = rw (comma k o, e) refl
 
-list_stop : (s : List ℕ) (place n k p : ℕ) (v : List ℕ) → 1 ≤ k → after_at s p (mark_of k) ≡ Nowhere → list_fields s place n k p v ≡ list_end place k p v
+list_stop : (s : List ℕ) (place n k p : ℕ) (v : List ℕ) → 1 ≤ k → after_at s p (mark_of k) ≡ None → list_fields s place n k p v ≡ list_end place k p v
 unfolding list_fields pick
 list_stop s place zero k p v o a = refl
 list_stop s place (suc n) k p v o a = rw (a, ne_eqb k 0 (λ e. omega arith)) refl
 
-list_one : (s : List ℕ) (place n k p q x t : ℕ) (v : List ℕ) → after_at s p (mark_of k) ≡ At q → number_at s q ≡ Is x t → list_fields s place (suc n) k p v ≡ list_fields s place n (k + 1) t (set v (place + 1 + k) x)
+list_one : (s : List ℕ) (place n k p q x t : ℕ) (v : List ℕ) → after_at s p (mark_of k) ≡ Some q → number_at s q ≡ is x t → list_fields s place (suc n) k p v ≡ list_fields s place n (k + 1) t (set v (place + 1 + k) x)
 unfolding list_fields
 list_one s place n k p q x t v a b = rw (a, b)
 
@@ -175,9 +174,9 @@ list_read s place (suc m) room k p v l hv o h d e =
     let p₂ = p₁ + length t in
     let nx = after_field plain (place + 1) m k v 10 l (omega arith) in
     let e₁ : drop p s ≡ mark_of k ++ (t ++ (r ++ 10 ∷ l)) = e ∙ append_assoc (mark_of k) (t ++ r) (10 ∷ l) ∙ ap (λ (y : List ℕ). mark_of k ++ y) (append_assoc t r (10 ∷ l)) in
-    let a : after_at s p (mark_of k) ≡ At p₁ = after_read s p (mark_of k) (t ++ (r ++ 10 ∷ l)) e₁ in
+    let a : after_at s p (mark_of k) ≡ Some p₁ = after_read s p (mark_of k) (t ++ (r ++ 10 ∷ l)) e₁ in
     let e₂ : drop p₁ s ≡ t ++ (r ++ 10 ∷ l) = past s p (mark_of k) (t ++ (r ++ 10 ∷ l)) e₁ in
-    let b : number_at s p₁ ≡ Is x p₂ = sym (plain_field s p₁) ∙ field_read s p₁ plain x nx.0 nx.1 (d at (omega arith) (omega arith)) nx.2 (e₂ ∙ ap (λ (y : List ℕ). t ++ y) nx.3) in
+    let b : number_at s p₁ ≡ is x p₂ = sym (plain_field s p₁) ∙ field_read s p₁ plain x nx.0 nx.1 (d at (omega arith) (omega arith)) nx.2 (e₂ ∙ ap (λ (y : List ℕ). t ++ y) nx.3) in
     let e₃ : drop p₂ s ≡ r ++ 10 ∷ l = past s p₁ t (r ++ 10 ∷ l) e₂ in
     let ih = list_read s place m room (k + 1) p₂ v l hv (omega arith) (omega arith) (λ j g₁ g₂. d j (omega arith) (omega arith)) e₃ in
     let q₀ : suc m + room ≡ suc (m + room) = omega arith in
@@ -211,8 +210,8 @@ list_end_read v place m p hv h o c x =
 none_read : (s : List ℕ) (place n p : ℕ) (v l : List ℕ) → drop p s ≡ bytes "=0" ++ 10 ∷ l → get_or v place 0 ≡ 0 → get_or v (place + 1) 0 ≡ 0 → list_fields s place (suc n) 0 p v ≡ good (p + 2) v
 unfolding list_fields mark_of digits_in digit_of pick
 none_read s place n p v l e z x =
-    let a : after_at s p (bytes "=") ≡ At (p + 1) = after_read s p (bytes "=") (48 ∷ 10 ∷ l) e in
-    let b : number_at s (p + 1) ≡ Is 0 (p + 1 + 1) = number_read s (p + 1) 0 10 l (omega arith) (omega arith) (past s p (bytes "=") (48 ∷ 10 ∷ l) e) in
+    let a : after_at s p (bytes "=") ≡ Some (p + 1) = after_read s p (bytes "=") (48 ∷ 10 ∷ l) e in
+    let b : number_at s (p + 1) ≡ is 0 (p + 1 + 1) = number_read s (p + 1) 0 10 l (omega arith) (omega arith) (past s p (bytes "=") (48 ∷ 10 ∷ l) e) in
     let two : p + 1 + 1 ≡ p + 2 = omega arith in
     let at : place + 1 + 0 ≡ place + 1 = omega arith in
     let same : set v (place + 1) 0 ≡ v = ap (set v (place + 1)) (sym x) ∙ set-get_or v (place + 1) 0 in
@@ -262,13 +261,13 @@ list_line s row p v l hv h wide k e =
 -- what a row keeps so that its line says it: each of its numbers can be said in its form, those that it has not are 0, and what a list keeps
 pub record Told (v : List ℕ) (row : ℕ) : Type 0 where
   pub said : (m : ℕ) → place_of row ≤ m → m < place_of row + used v row → Sayable (form_of row) (get_or v m 0)
-  pub listed : eqb (form_of row) list ≡ true → Kept v row
+  pub listed : is_list (form_of row) ≡ true → Kept v row
 
 values_read : (s : List ℕ) (row p : ℕ) (v l : List ℕ) → length v ≡ number_count → row < row_count → Told v row → drop p s ≡ values_text (form_of row) (place_of row) (width_of row) v ++ 10 ∷ l
     → values_at s (form_of row) (place_of row) (width_of row) p (part v (place_of row)) ≡ good (p + length (values_text (form_of row) (place_of row) (width_of row) v)) (part v (place_of row + width_of row))
 unfolding values_at values_text digit_of pick
 values_read s row p v l hv hr d e =
-    split (eqb (form_of row) list)
+    split (is_list (form_of row))
     (λ t. rw t (list_line s row p v l hv (place_room row hr) (list_wide row t) (d.listed t) (rw t at e)))
     (λ t.
     let z : place_of row + 0 ≡ place_of row = omega arith in
@@ -281,11 +280,11 @@ line_read s at row v l hv hr d e =
     let k = key_of row in
     let t = values_text (form_of row) (place_of row) (width_of row) v in
     let e₁ : drop at s ≡ k ++ (t ++ 10 ∷ l) = e ∙ append_assoc k (t ++ line_feed) l ∙ ap (λ (y : List ℕ). k ++ y) (append_assoc t line_feed l) in
-    let a : after_at s at k ≡ At (at + length k) = after_read s at k (t ++ 10 ∷ l) e₁ in
+    let a : after_at s at k ≡ Some (at + length k) = after_read s at k (t ++ 10 ∷ l) e₁ in
     let e₂ : drop (at + length k) s ≡ t ++ 10 ∷ l = past s at k (t ++ 10 ∷ l) e₁ in
     let f = values_read s row (at + length k) v l hv hr d e₂ in
     let e₃ : drop (at + length k + length t) s ≡ 10 ∷ l = past s (at + length k) t (10 ∷ l) e₂ in
-    let b : after_at s (at + length k + length t) line_feed ≡ At (at + length k + length t + 1) = after_read s (at + length k + length t) line_feed l e₃ in
+    let b : after_at s (at + length k + length t) line_feed ≡ Some (at + length k + length t + 1) = after_read s (at + length k + length t) line_feed l e₃ in
     let q : at + length k + length t + 1 ≡ at + length (k ++ (t ++ line_feed)) = rw (length-append k (t ++ line_feed), length-append t line_feed) (omega arith) in
     rw (a, f, b, q)
 
@@ -306,15 +305,15 @@ said k j hk hj =
 used_range : (v : List ℕ) (row j : ℕ) → j < used v row → get_or (used_ranges v row) j (0 to 0) ≡ range_of row j
 unfolding used_ranges pick
 used_range v row j h =
-    split (eqb (form_of row) list)
+    split (is_list (form_of row))
     (λ t. rw t (get_or-take (1 + get_or v (place_of row) 0) (ranges_of row) j (0 to 0) (omega (arith, used_list v row t))))
     (λ t. rw t)
 
-pub ranged : (row : ℕ) (v : List ℕ) (line : ℕ) → row_fault v row line ≡ Fine → (j : ℕ) → j < used v row → Between (range_of row j).least (get_or v (place_of row + j) 0) (range_of row j).most
+pub ranged : (row : ℕ) (v : List ℕ) (line : ℕ) → row_fault v row line ≡ Ok tt → (j : ℕ) → j < used v row → Between (range_of row j).least (get_or v (place_of row + j) 0) (range_of row j).most
 unfolding row_fault
 ranged row v line f j h = rw (← (used_range v row j h)) (in_each v (place_of row) (used_ranges v row) (passes _ _ _ (both_fine _ _ f).0) j h)
 
-sayable : (row : ℕ) (v : List ℕ) (line : ℕ) → row < row_count → row_fault v row line ≡ Fine → (m : ℕ) → place_of row ≤ m → m < place_of row + used v row → Sayable (form_of row) (get_or v m 0)
+sayable : (row : ℕ) (v : List ℕ) (line : ℕ) → row < row_count → row_fault v row line ≡ Ok tt → (m : ℕ) → place_of row ≤ m → m < place_of row + used v row → Sayable (form_of row) (get_or v m 0)
 unfolding form_of width_of ranges_of
 sayable row v line h f m g l =
     let k = kind_of row in
@@ -325,27 +324,27 @@ sayable row v line h f m g l =
     record { low = omega (arith, t.0, r.low); high = omega (arith, t.1, r.high) }
 
 -- in the table a list counts as many numbers as there is room for, and the first is no 0
-list_most : (row : ℕ) → row < row_count → eqb (form_of row) list ≡ true → (range_of row 0).most ≡ width_of row - 1
+list_most : (row : ℕ) → row < row_count → is_list (form_of row) ≡ true → (range_of row 0).most ≡ width_of row - 1
 unfolding form_of width_of ranges_of kind_of
 list_most row h t =
     eqb→eq (range_of row 0).most (width_of row - 1)
-    (given_then (eqb (form_of row) list) (eqb (range_of row 0).most (width_of row - 1))
-    (at (λ (r : ℕ). given (eqb (form_of r) list) (eqb (range_of r 0).most (width_of r - 1))) row_count tt row h)
+    (given_then (is_list (form_of row)) (eqb (range_of row 0).most (width_of row - 1))
+    (at (λ (r : ℕ). given (is_list (form_of r)) (eqb (range_of r 0).most (width_of r - 1))) row_count tt row h)
     (rw t tt))
 
-list_least : (row : ℕ) → row < row_count → eqb (form_of row) list ≡ true → 1 ≤ (range_of row 1).least
+list_least : (row : ℕ) → row < row_count → is_list (form_of row) ≡ true → 1 ≤ (range_of row 1).least
 unfolding form_of ranges_of kind_of
 list_least row h t =
     leb→le 1 (range_of row 1).least
-    (given_then (eqb (form_of row) list) (leb 1 (range_of row 1).least)
-    (at (λ (r : ℕ). given (eqb (form_of r) list) (leb 1 (range_of r 1).least)) row_count tt row h)
+    (given_then (is_list (form_of row)) (leb 1 (range_of row 1).least)
+    (at (λ (r : ℕ). given (is_list (form_of r)) (leb 1 (range_of r 1).least)) row_count tt row h)
     (rw t tt))
 
 said_plain : (x : ℕ) → Sayable list x → Sayable plain x
 unfolding domain pick
 said_plain x b = b
 
-list_kept : (row : ℕ) (v : List ℕ) (line : ℕ) → row < row_count → row_fault v row line ≡ Fine → eqb (form_of row) list ≡ true → ((m : ℕ) → place_of row + used v row ≤ m → m < place_of row + width_of row → get_or v m 0 ≡ 0) → Kept v row
+list_kept : (row : ℕ) (v : List ℕ) (line : ℕ) → row < row_count → row_fault v row line ≡ Ok tt → is_list (form_of row) ≡ true → ((m : ℕ) → place_of row + used v row ≤ m → m < place_of row + width_of row → get_or v m 0 ≡ 0) → Kept v row
 list_kept row v line h f t c =
     let wide = list_wide row t in
     let n = used_list v row t in
@@ -353,10 +352,10 @@ list_kept row v line h f t c =
     let few : get_or v (place_of row) 0 ≤ width_of row - 1 = rw (z, list_most row h t) at (ranged row v line f 0 (omega arith)).high in
     record {
       few = few;
-      said = λ j g i. said_plain (get_or v j 0) (rw (eqb-true (form_of row) list t) at (sayable row v line h f j (omega arith) (omega (arith, n))));
+      said = λ j g i. said_plain (get_or v j 0) (rw (list_true (form_of row) t) at (sayable row v line h f j (omega arith) (omega (arith, n))));
       some = λ o. omega (arith, list_least row h t, (ranged row v line f 1 (omega (arith, n))).low);
       clear = λ m g i. c m (omega (arith, n)) i;
     }
 
-pub told : (row : ℕ) (v : List ℕ) (line : ℕ) → row < row_count → row_fault v row line ≡ Fine → ((m : ℕ) → place_of row + used v row ≤ m → m < place_of row + width_of row → get_or v m 0 ≡ 0) → Told v row
+pub told : (row : ℕ) (v : List ℕ) (line : ℕ) → row < row_count → row_fault v row line ≡ Ok tt → ((m : ℕ) → place_of row + used v row ≤ m → m < place_of row + width_of row → get_or v m 0 ≡ 0) → Told v row
 told row v line h f c = record { said = sayable row v line h f; listed = λ t. list_kept row v line h f t c }

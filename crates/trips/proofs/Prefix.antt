@@ -11,17 +11,19 @@ use borrow.Author.Tests.{ltb-false, ne_eqb}
 use Rattle.units.specs.Numbers.{pick}
 use Rattle.units.proofs.Steps.{split, never}
 use Rattle.sheet.specs.Refusals.{is_fine, or_else}
-use Rattle.rows.specs.Table.{row_count, number_count, worded, signed, list, key_of, form_of, place_of, width_of}
+use Rattle.rows.specs.declared.table.Form.{Form}
+use Rattle.rows.specs.Table.{is_signed, is_worded, is_list, row_count, number_count, key_of, form_of, place_of, width_of}
 use Rattle.rows.specs.Marks.{mark_of, minus, line_feed, word_of}
 use Rattle.numbers.specs.Flat.{sheet_of}
 use Rattle.faults.specs.Whole.{whole_fault}
 use Rattle.text.specs.Line.{Taken}
 use Rattle.text.specs.Read.{Step}
 use Rattle.figures.specs.Figures.{digit_of, more, number, after, number_at, after_at, signed_at}
-use Rattle.text.specs.Line.{word_at, field_at, good, fields, list_fields, values_at, ended, line_at}
+use Rattle.text.specs.Line.{word_at, field_at, fields, list_fields, values_at, ended, line_at}
 use Rattle.text.specs.Read.{judged_at, end_at, on_step, begins, passed, here_at, lines_from, reply, read_by, may_lack}
 use Rattle.rows.specs.Longest.{longest_field, longest_fields, most_fields, longest_row, longest_from, longest}
-use Rattle.text.proofs.Cases.{by_place, by_figure}
+use Rattle.faults.specs.Lines.{row_fault}
+use Rattle.text.proofs.Cases.{past_fine, by_place, by_figure}
 use Rattle.text.proofs.Lengths.{short_digits, short_word, short_field, mark_long, most_list, most_all}
 use Rattle.trips.specs.Promises.{CutIsSame}
 use Rattle.trips.specs.Older.{OlderCutIsSame}
@@ -97,13 +99,13 @@ module _ (s : List ℕ) (n : ℕ) where
       (λ a. rw (word_at_lem at minus (omega arith), a, number_at_lem at (omega arith)))
       (λ p a. let e = (after_back s at p minus a).place in rw (word_at_lem at minus (omega arith), a, number_at_lem p (omega arith)))
 
-  field_at_lem : (at form : ℕ) → at + longest_field form + 1 ≤ n → field_at c at form ≡ field_at s at form
+  field_at_lem : (at : ℕ) (form : Form) → at + longest_field form + 1 ≤ n → field_at c at form ≡ field_at s at form
   unfolding field_at longest_field pick
   field_at_lem at form h =
-      split (eqb form worded) (λ t. rw t (words_at at (omega (arith, rw t at h))))
-      (λ t. split (eqb form signed) (λ t₁. rw (t, t₁) (signed_at_lem at (omega (arith, rw (t, t₁) at h)))) (λ t₁. rw (t, t₁) (number_at_lem at (omega (arith, rw (t, t₁) at h)))))
+      split (is_worded form) (λ t. rw t (words_at at (omega (arith, rw t at h))))
+      (λ t. split (is_signed form) (λ t₁. rw (t, t₁) (signed_at_lem at (omega (arith, rw (t, t₁) at h)))) (λ t₁. rw (t, t₁) (number_at_lem at (omega (arith, rw (t, t₁) at h)))))
 
-  fields_at : (form place k j p : ℕ) (v : List ℕ) → p + longest_fields form k + 1 ≤ n → fields c form place k j p v ≡ fields s form place k j p v
+  fields_at : (form : Form) (place k j p : ℕ) (v : List ℕ) → p + longest_fields form k + 1 ≤ n → fields c form place k j p v ≡ fields s form place k j p v
   unfolding fields longest_fields
   fields_at form place zero j p v h = refl
   fields_at form place (suc k) j p v h =
@@ -137,13 +139,13 @@ module _ (s : List ℕ) (n : ℕ) where
       → values_at c (form_of row) (place_of row) (width_of row) p v ≡ values_at s (form_of row) (place_of row) (width_of row) p v
   unfolding values_at pick
   values_at_lem row p v h =
-      split (eqb (form_of row) list)
+      split (is_list (form_of row))
       (λ t. rw t (list_at (place_of row) (width_of row - 1) 0 p v (omega (arith, most_list row t))))
       (λ t. rw t (fields_at (form_of row) (place_of row) (width_of row) 0 p v (omega (arith, most_all row t))))
 
 -- ---- where a line that was read ends
 
-fields_near : (s : List ℕ) (form place k j p : ℕ) (v : List ℕ) → (fields s form place k j p v).good ≡ true → (fields s form place k j p v).next ≤ p + longest_fields form k
+fields_near : (s : List ℕ) (form : Form) (place k j p : ℕ) (v : List ℕ) → (fields s form place k j p v).good ≡ true → (fields s form place k j p v).next ≤ p + longest_fields form k
 unfolding fields longest_fields
 fields_near s form place zero j p v g = omega arith
 fields_near s form place (suc k) j p v g =
@@ -175,7 +177,7 @@ values_near : (s : List ℕ) (row p : ℕ) (v : List ℕ) → (values_at s (form
     → (values_at s (form_of row) (place_of row) (width_of row) p v).next ≤ p + longest_fields (form_of row) (most_fields row)
 unfolding values_at pick
 values_near s row p v g =
-    split (eqb (form_of row) list)
+    split (is_list (form_of row))
     (λ t. rw (most_list row t, t) (list_near s (place_of row) (width_of row - 1) 0 p v (rw t at g)))
     (λ t. rw (most_all row t, t) (fields_near s (form_of row) (place_of row) (width_of row) 0 p v (rw t at g)))
 
@@ -204,7 +206,10 @@ unfolding here_at judged_at pick
 here_near may s at row line v f =
     split (passed may s at row v)
     (λ a. rw a (omega arith))
-    (λ a. split (line_at s at row v).good (λ g. rw (a, g) (line_near s at row v g)) (λ g. never (rw (a, g) at f)))
+    (λ a. split (line_at s at row v).good (λ g.
+    let t = line_at s at row v in
+    let fine = past_fine (row_fault t.numbers row line) t.next t.numbers (rw (a, g) at f) in
+    rw (a, g, fine) (line_near s at row v g)) (λ g. never (rw (a, g) at f)))
 
 -- ---- all lines
 

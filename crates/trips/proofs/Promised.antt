@@ -10,10 +10,9 @@ use lib.Seq.{take-append_seam}
 use Rattle.units.specs.Numbers.{pick}
 use Rattle.units.proofs.Steps.{split, never}
 use Rattle.sheet.specs.declared.Sheet.{Sheet}
-use Rattle.sheet.specs.declared.Answer.{Answer}
-use Rattle.sheet.specs.declared.Answer.TheVariants.{Fine, Refused}
+use Rattle.sheet.specs.Refusals.{Answer, is_fine, or_else, unless}
+use Rattle.std.specs.Prelude.{Ok, Err}
 use Rattle.sheet.specs.declared.Refusal.TheVariants.{NoRoom}
-use Rattle.sheet.specs.Refusals.{is_fine, or_else, unless}
 use Rattle.sheet.specs.Zero.{zero_phase, zero_point, zero_sheet}
 use Rattle.sheet.proofs.Answers.{both_fine, bad_or}
 use Rattle.rows.specs.Table.{row_for, place_for, row_count, number_count, kind_of, form_of, ranges_of, range_of, width_of, place_of, used_ranges, present}
@@ -54,14 +53,14 @@ unfolding trimmed flat_of
 sheet_kept s h g g2 =
     sheet_again (trimmed s) (kept_long zero_phase s.phase_count s.phases ∙ h.phases) (kept_long 0 s.dwell_count s.dwell ∙ h.dwell) (kept_long zero_point s.point_count s.points ∙ h.points) (graded _ g) (graded _ g2)
 
-pub read_fine : (may : ℕ → Bool) (t v : List ℕ) (p : ℕ) → lines_of may t ≡ step Fine p v → whole_fault (sheet_of v) ≡ Fine → read_by may t ≡ record { answer = Fine; sheet = sheet_of v }
+pub read_fine : (may : ℕ → Bool) (t v : List ℕ) (p : ℕ) → lines_of may t ≡ step (Ok tt) p v → whole_fault (sheet_of v) ≡ Ok tt → read_by may t ≡ record { answer = Ok tt; sheet = sheet_of v }
 unfolding read_by reply or_else pick
 read_fine may t v p e f =
     ap (λ (x : Step). reply (or_else x.answer (whole_fault (sheet_of x.numbers))) (sheet_of x.numbers)) e ∙ ap (λ (a : Answer). reply a (sheet_of v)) f
 
 -- the text of numbers without a fault, whichever forms are taken
-pub numbers_read : (older : Bool) (v : List ℕ) → length v ≡ number_count → Clear 0 v → lines_fault v ≡ Fine → whole_fault (sheet_of v) ≡ Fine
-    → read_by (may_lack older) (text_from v row_count 0) ≡ record { answer = Fine; sheet = sheet_of v }
+pub numbers_read : (older : Bool) (v : List ℕ) → length v ≡ number_count → Clear 0 v → lines_fault v ≡ Ok tt → whole_fault (sheet_of v) ≡ Ok tt
+    → read_by (may_lack older) (text_from v row_count 0) ≡ record { answer = Ok tt; sheet = sheet_of v }
 numbers_read older v l c e f =
     let t = text_read older (λ r. false) v (all_there older v) l c e in
     ap (read_by (may_lack older)) (sym (text_all v row_count 0)) ∙ read_fine (may_lack older) (text_less (λ r. false) v row_count 0) v _ t f
@@ -75,7 +74,7 @@ sheet_to_text s h e =
     let whole = ap whole_fault same ∙ whole_same s (omega (arith, k.point_count.low)) ∙ both.1 in
     ap read_of (sym (text_same s))
     ∙ numbers_read false (flat_of (trimmed s)) (flat_long (trimmed s)) (clear s) (fault_same s ∙ both.0) whole
-    ∙ ap (λ (x : Sheet). record { answer = Fine; sheet = x }) same
+    ∙ ap (λ (x : Sheet). record { answer = Ok tt; sheet = x }) same
 
 -- numbers for dwell that are not counted do not come back: of a sheet that counts none and has some
 dwell_cleared : (trimmed (with_entries zero_sheet [] (8 ∷ 8 ∷ []) [])).dwell ≡ 0 ∷ 0 ∷ []
@@ -91,27 +90,27 @@ blank_same s b =
     λ i. with_entries s (p i) (d i) (q i)
 
 pub sheet_to_sheet : SheetToSheet
-sheet_to_sheet s h b e = sheet_to_text s h e ∙ ap (λ (x : Sheet). record { answer = Fine; sheet = x }) (blank_same s b)
+sheet_to_sheet s h b e = sheet_to_text s h e ∙ ap (λ (x : Sheet). record { answer = Ok tt; sheet = x }) (blank_same s b)
 
 -- ---- text to sheet to text
 
-reply_fine : (a : Answer) (s : Sheet) → (reply a s).answer ≡ Fine → (a ≡ Fine) × ((reply a s).sheet ≡ s)
+reply_fine : (a : Answer) (s : Sheet) → (reply a s).answer ≡ Ok tt → (a ≡ Ok tt) × ((reply a s).sheet ≡ s)
 unfolding reply pick
-reply_fine Fine s e = (refl, refl)
-reply_fine (Refused r l) s e = never (ap is_fine e)
+reply_fine (Ok _) s e = (refl, refl)
+reply_fine (Err d) s e = never (ap is_fine e)
 
 -- the first number of a row of numbers without a fault: the vehicle, a grade
-first_in : (v : List ℕ) (row : ℕ) → lines_fault v ≡ Fine → row < row_count → present v row ≡ true → 0 < used v row → Between (range_of row 0).least (get_or v (place_of row + 0) 0) (range_of row 0).most
+first_in : (v : List ℕ) (row : ℕ) → lines_fault v ≡ Ok tt → row < row_count → present v row ≡ true → 0 < used v row → Between (range_of row 0).least (get_or v (place_of row + 0) 0) (range_of row 0).most
 first_in v row e h p u =
     let z : 0 + row ≡ row = omega arith in
     let f : FineRow v row = rw z at (fine_rows v row_count 0 1 e row h (rw z p)) in
     ranged row v f.line f.fine 0 u
 
-vehicle_in : (v : List ℕ) → lines_fault v ≡ Fine → get_or v (place_for "vehicle") 0 ≤ 3
+vehicle_in : (v : List ℕ) → lines_fault v ≡ Ok tt → get_or v (place_for "vehicle") 0 ≤ 3
 unfolding present pick used_ranges form_of ranges_of kind_of place_of width_of
 vehicle_in v e = (first_in v (row_for "vehicle") e (omega arith) refl (omega arith)).high
 
-grades_in : (v : List ℕ) → lines_fault v ≡ Fine → Graded (get_or v (place_for "grade") 0) × Graded (get_or v (place_for "grade2") 0)
+grades_in : (v : List ℕ) → lines_fault v ≡ Ok tt → Graded (get_or v (place_for "grade") 0) × Graded (get_or v (place_for "grade2") 0)
 unfolding present pick used_ranges form_of ranges_of kind_of place_of width_of
 grades_in v e =
     (graded _ (first_in v (row_for "grade") e (omega arith) refl (omega arith)), graded _ (first_in v (row_for "grade2") e (omega arith) refl (omega arith)))
@@ -120,10 +119,10 @@ grades_in v e =
 pub record Back (older : Bool) (t : List ℕ) (s : Sheet) : Type 0 where
   pub sheet : (read_by (may_lack older) t).sheet ≡ s
   pub lines : Whole older t row_count 0 0 (replicate number_count 0) (flat_of s)
-  pub accepted : accept_of s ≡ Fine
-  pub again : (o : Bool) → read_by (may_lack o) (text_of s) ≡ record { answer = Fine; sheet = s }
+  pub accepted : accept_of s ≡ Ok tt
+  pub again : (o : Bool) → read_by (may_lack o) (text_of s) ≡ record { answer = Ok tt; sheet = s }
 
-pub read_back : (older : Bool) (t : List ℕ) → (read_by (may_lack older) t).answer ≡ Fine → Back older t (sheet_of (lines_of (may_lack older) t).numbers)
+pub read_back : (older : Bool) (t : List ℕ) → (read_by (may_lack older) t).answer ≡ Ok tt → Back older t (sheet_of (lines_of (may_lack older) t).numbers)
 unfolding read_by accept_of or_else
 read_back older t e =
     let lines = lines_of (may_lack older) t in

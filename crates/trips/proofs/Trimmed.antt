@@ -17,7 +17,7 @@ use Rattle.sheet.specs.declared.Point.{Point}
 use Rattle.sheet.specs.declared.Refusal.TheVariants.{RelocationBeyondStorage, WarningTooShort, RelocationTooFar, TrackLongerThanTransfer, DwellPhaseNotListed}
 use Rattle.sheet.specs.Refusals.{or_else, unless}
 use Rattle.sheet.specs.Zero.{zero_phase, zero_point}
-use Rattle.rows.specs.Table.{most_phases, most_points, row_for, place_for, first_phase, first_point, row_count, list, kind_of, form_of, ranges_of, width_of, place_of, present}
+use Rattle.rows.specs.Table.{is_list, most_phases, most_points, row_for, place_for, first_phase, first_point, row_count, kind_of, form_of, ranges_of, width_of, place_of, present}
 use Rattle.numbers.specs.Flat.{phase_place, point_place, phase_numbers, point_numbers, numbers_from, flat_of, phase_at, point_at}
 use Rattle.transfer.specs.Transfer.{track_fits}
 use Rattle.faults.specs.Lines.{here_fault, line_after, rule_fault, fault_from}
@@ -47,11 +47,11 @@ head_row row h =
     leb→le (place_of row + width_of row) (place_for "phase") (at (λ (r : ℕ). leb (place_of r + width_of r) (place_for "phase")) first_phase tt row h)
 
 -- between the phases and the points stand the track, the one list, and the rows of one number
-only_list : (row : ℕ) → row < row_count → eqb (form_of row) list ≡ true → row ≡ row_for "dwell"
+only_list : (row : ℕ) → row < row_count → is_list (form_of row) ≡ true → row ≡ row_for "dwell"
 unfolding form_of kind_of
 only_list row h t =
     eqb→eq row (row_for "dwell")
-    (given_then (eqb (form_of row) list) (eqb row (row_for "dwell")) (at (λ (r : ℕ). given (eqb (form_of r) list) (eqb r (row_for "dwell"))) row_count tt row h) (rw t tt))
+    (given_then (is_list (form_of row)) (eqb row (row_for "dwell")) (at (λ (r : ℕ). given (is_list (form_of r)) (eqb r (row_for "dwell"))) row_count tt row h) (rw t tt))
 
 -- the row's numbers stand from one place to another
 abbrev stands : ℕ → ℕ → ℕ → Bool
@@ -68,12 +68,12 @@ on_track row = stands row (place_for "track") (place_for "dwell")
 abbrev single : ℕ → Bool
 single row = stands row (place_for "l18") (place_for "point")
 
-middle_row : {X : Type 0} (row : ℕ) → past_phases ≤ row → row < first_point → eqb (form_of row) list ≡ false
+middle_row : {X : Type 0} (row : ℕ) → past_phases ≤ row → row < first_point → is_list (form_of row) ≡ false
     → (place_for "track" ≤ place_of row → place_of row + width_of row ≤ place_for "dwell" → X) → (place_for "l18" ≤ place_of row → place_of row + width_of row ≤ place_for "point" → X) → X
 unfolding form_of place_of width_of ranges_of kind_of pick
 middle_row row l h n f g =
     let e : past_phases + (row - past_phases) ≡ row = omega arith in
-    let t : T (pick (eqb (form_of row) list) true (pick (on_track row) true (single row))) = rw e at (at (λ (r : ℕ). pick (eqb (form_of (past_phases + r)) list) true (pick (on_track (past_phases + r)) true (single (past_phases + r)))) (first_point - past_phases) tt (row - past_phases) (omega arith)) in
+    let t : T (pick (is_list (form_of row)) true (pick (on_track row) true (single row))) = rw e at (at (λ (r : ℕ). pick (is_list (form_of (past_phases + r))) true (pick (on_track (past_phases + r)) true (single (past_phases + r)))) (first_point - past_phases) tt (row - past_phases) (omega arith)) in
     split (on_track row) (λ o. stood row (place_for "track") (place_for "dwell") f (rw o tt)) (λ o. stood row (place_for "l18") (place_for "point") g (rw (n, o) at t))
 
 phase_counted : (v : List ℕ) (i : ℕ) → i < most_phases → present v (first_phase + i) ≡ ltb i (get_or v (place_for "phases") 0)
@@ -170,7 +170,7 @@ module _ (s : Sheet) where
   dwell_none i h c = dwell_in (trimmed s) (suc i) (omega arith) ∙ kept_past 0 s.dwell_count s.dwell i c
 
   -- how many of them a sheet has
-  dwell_counted : (row : ℕ) → row < row_count → eqb (form_of row) list ≡ true → (x : Sheet) → (place_of row ≡ place_for "dwell") × (width_of row ≡ 1 + most_phases) × (get_or (flat_of x) (place_of row) 0 ≡ x.dwell_count)
+  dwell_counted : (row : ℕ) → row < row_count → is_list (form_of row) ≡ true → (x : Sheet) → (place_of row ≡ place_for "dwell") × (width_of row ≡ 1 + most_phases) × (get_or (flat_of x) (place_of row) 0 ≡ x.dwell_count)
   unfolding width_of
   dwell_counted row h t x =
       let e = only_list row h t in
@@ -178,7 +178,7 @@ module _ (s : Sheet) where
 
   middle_same : (row : ℕ) → row < row_count → past_phases ≤ row → row < first_point → Row row v w
   middle_same row hr l k m g b =
-      split (eqb (form_of row) list)
+      split (is_list (form_of row))
       (λ t.
       let d = dwell_counted row hr t s in
       let few = used_list v row t in
@@ -191,7 +191,7 @@ module _ (s : Sheet) where
   held_clear : (row : ℕ) → row < row_count → (m : ℕ) → place_of row + used w row ≤ m → m < place_of row + width_of row → get_or w m 0 ≡ 0
   unfolding trimmed
   held_clear row hr m g b =
-      split (eqb (form_of row) list)
+      split (is_list (form_of row))
       (λ t.
       let d = dwell_counted row hr t (trimmed s) in
       let few = used_list w row t in

@@ -1,5 +1,5 @@
 -- What was read is what is written: a text whose lines are fine gives numbers without a fault, and is their text without the lines that were absent. Assumes nothing.
-use Prim.Native.Nat.{ℕ, zero, suc, ◌+◌, ◌-◌, ◌≤◌, ◌<◌}
+use Prim.Native.Nat.{ℕ, zero, suc, ◌+◌, ◌≤◌, ◌<◌}
 use mathlib.Core.Path.{◌≡◌, refl, sym, ap, subst, ◌∙◌}
 use mathlib.Core.List.{List, [], ◌++◌}
 use mathlib.Core.Bool.{Bool, true, false}
@@ -10,9 +10,9 @@ use lib.Dec.{eqb}
 use borrow.Author.Tests.{eq-eqb, ne_eqb, eqb-true, eqb-false}
 use Rattle.units.specs.Numbers.{pick}
 use Rattle.units.proofs.Steps.{split, never}
-use Rattle.sheet.specs.declared.Answer.TheVariants.{Fine}
+use Rattle.std.specs.Prelude.{Ok}
 use Rattle.sheet.specs.Refusals.{is_fine, or_else}
-use Rattle.rows.specs.Table.{row_count, number_count, list, form_of, width_of, place_of, present}
+use Rattle.rows.specs.Table.{is_list, row_count, number_count, form_of, width_of, place_of, present}
 use Rattle.rows.proofs.Tables.{place_room, width_some}
 use Rattle.faults.specs.Lines.{row_fault, here_fault, line_after, fault_from}
 use Rattle.text.specs.Read.{Step, judged_at, end_at, on_step, begins, passed, stands_for, filled, here_at, lines_from, lines_of, may_lack}
@@ -31,7 +31,7 @@ pub record Whole (older : Bool) (s : List ℕ) (n row at : ℕ) (v w : List ℕ)
   pub text : drop at s ≡ text_less gone w n row
   pub before : Below (place_of row) v w
   pub long : length w ≡ number_count
-  pub checked : (line : ℕ) → fault_from w n row line ≡ Fine
+  pub checked : (line : ℕ) → fault_from w n row line ≡ Ok tt
   pub clear : Clear row w
 
 -- a row passed over or read, up to the numbers u and the place p
@@ -39,7 +39,7 @@ record Here (older : Bool) (s : List ℕ) (row at : ℕ) (v u : List ℕ) (p : �
   below : Below (place_of row) v u
   behind : (m : ℕ) → place_of row + width_of row ≤ m → get_or u m 0 ≡ get_or v m 0
   long : length u ≡ length v
-  fault : (w : List ℕ) (line : ℕ) → length w ≡ length u → Below (place_of row + width_of row) u w → here_fault w row line ≡ Fine
+  fault : (w : List ℕ) (line : ℕ) → length w ≡ length u → Below (place_of row + width_of row) u w → here_fault w row line ≡ Ok tt
   lacks : Bool
   may : lacks ≡ true → may_lack older row ≡ true
   same : lacks ≡ true → (w : List ℕ) → Below (place_of row + width_of row) u w → get_or w (place_of row) 0 ≡ stands_for w row
@@ -51,7 +51,7 @@ Bare row v = (m : ℕ) → place_of row ≤ m → get_or v m 0 ≡ 0
 
 -- the row before has no fault, whatever its line
 abbrev Fined : ℕ → List ℕ → Type 0
-Fined row v = (r line : ℕ) → r + 1 ≡ row → here_fault v r line ≡ Fine
+Fined row v = (r line : ℕ) → r + 1 ≡ row → here_fault v r line ≡ Ok tt
 
 module _ (older : Bool) (s : List ℕ) (row line at : ℕ) (v : List ℕ) (h : row < row_count) where
   past_count : Bare row v → present v row ≡ false → Here older s row at v v at
@@ -72,7 +72,7 @@ module _ (older : Bool) (s : List ℕ) (row line at : ℕ) (v : List ℕ) (h : r
 
   used_some : (w : List ℕ) → 1 ≤ used w row
   used_some w =
-      split (eqb (form_of row) list) (λ t. omega (arith, used_list w row t, width_some row h)) (λ t. omega (arith, used_all w row t, width_some row h))
+      split (is_list (form_of row)) (λ t. omega (arith, used_list w row t, width_some row h)) (λ t. omega (arith, used_all w row t, width_some row h))
 
   absent_here : length v ≡ number_count → Bare row v → Fined row v → present v row ≡ true → may_lack older row ≡ true → Here older s row at v (stood v row) at
   unfolding here_fault here_text pick
@@ -83,7 +83,7 @@ module _ (older : Bool) (s : List ℕ) (row line at : ℕ) (v : List ℕ) (h : r
       let other : (k : ℕ) → (k ≡ place_of row → ⊥) → get_or u k 0 ≡ get_or v k 0 = λ k d. get_or-set_other v (place_of row) k _ 0 d in
       let long : length u ≡ length v = length-set v (place_of row) _ in
       let same : (w : List ℕ) → Below (place_of row + width_of row) u w → present w row ≡ true = λ w b. present_below row v w h (λ k l. b k (omega arith) ∙ other k (λ d. omega arith)) ∙ a in
-      let earlier : (r l : ℕ) → r + 1 ≡ row → row_fault u r l ≡ Fine =
+      let earlier : (r l : ℕ) → r + 1 ≡ row → row_fault u r l ≡ (Ok tt) =
       λ r l n.
       let next : place_of row ≡ place_of r + width_of r = sym (ap place_of n) ∙ place_next r in
       fault_below r l v u (omega arith) long (λ k b. other k (λ d. omega arith)) ∙ rw (present_before older v row r h m n) at (f r l n) in
@@ -189,7 +189,7 @@ lines_back older s (suc n) row line at v k l z d f =
     subst (λ (x : Step). Whole older s (suc n) row at v x.numbers) (sym on.1) (whole_next older s n row at v t.numbers _ t.next (omega arith) l here rest)
 
 -- a text whose lines are fine, and the numbers that were read
-pub text_back : (older : Bool) (s : List ℕ) → (lines_of (may_lack older) s).answer ≡ Fine → Whole older s row_count 0 0 (replicate number_count 0) (lines_of (may_lack older) s).numbers
+pub text_back : (older : Bool) (s : List ℕ) → (lines_of (may_lack older) s).answer ≡ Ok tt → Whole older s row_count 0 0 (replicate number_count 0) (lines_of (may_lack older) s).numbers
 text_back older s e =
     lines_back older s row_count 0 1 0 (replicate number_count 0) refl refl (λ m g. zeros_in number_count m) (λ r l n. absurd (omega arith)) (ap is_fine e)
 

@@ -1,8 +1,7 @@
 -- What is promised of texts of older forms, and of converting them, each with its sentence. proofs/ has a proof of each type.
-use Rattle.std.specs.Prelude.{ℕ, zero, suc, ◌+◌, ◌≤◌, ◌<◌, ◌≡◌, Bool, true, false, List, [], ◌++◌, eqb, length, take, drop}
+use Rattle.std.specs.Prelude.{ℕ, zero, suc, ◌+◌, ◌≤◌, ◌<◌, ◌≡◌, Bool, true, false, List, [], ◌++◌, eqb, length, take, drop, Ok}
 use Rattle.units.specs.Numbers.{pick, both}
 use Rattle.sheet.specs.declared.Sheet.{Sheet}
-use Rattle.sheet.specs.declared.Answer.TheVariants.{Fine}
 use Rattle.sheet.specs.Entries.{Shaped}
 use Rattle.sheet.specs.Refusals.{is_fine}
 use Rattle.rows.specs.Table.{row_for, row_count}
@@ -32,16 +31,16 @@ abbrev pub EachFormIsTaken : Type 0
 EachFormIsTaken =
     (no_grade2 no_dwell : Bool) (s : Sheet)
     → (no_grade2 ≡ true → s.grade2 ≡ s.grade) → (no_dwell ≡ true → s.dwell_count ≡ 0)
-    → Shaped s → Blank s → accept_of s ≡ Fine
-    → older_of (older_text no_grade2 no_dwell s) ≡ record { answer = Fine; sheet = s }
+    → Shaped s → Blank s → accept_of s ≡ Ok tt
+    → older_of (older_text no_grade2 no_dwell s) ≡ record { answer = Ok tt; sheet = s }
 
 -- and is converted to the text of the sheet, in today's form
 abbrev pub EachFormIsConverted : Type 0
 EachFormIsConverted =
     (no_grade2 no_dwell : Bool) (s : Sheet) (old : List ℕ)
     → (no_grade2 ≡ true → s.grade2 ≡ s.grade) → (no_dwell ≡ true → s.dwell_count ≡ 0)
-    → Shaped s → Blank s → accept_of s ≡ Fine → length (text_of s) ≤ length old
-    → (converted_of (older_text no_grade2 no_dwell s) (length old) ≡ record { answer = Fine; length = length (text_of s) })
+    → Shaped s → Blank s → accept_of s ≡ Ok tt → length (text_of s) ≤ length old
+    → (converted_of (older_text no_grade2 no_dwell s) (length old) ≡ record { answer = Ok tt; length = length (text_of s) })
     × (converted_bytes (older_text no_grade2 no_dwell s) old ≡ text_of s ++ drop (length (text_of s)) old)
 
 -- a text in one of the four forms: that of the sheet, without the lines that say what stands without them
@@ -54,30 +53,30 @@ pub record Form (t : List ℕ) (s : Sheet) : Type 0 where
 
 -- no other text is taken, and so every line of it is written as it is
 abbrev pub TakenIsAForm : Type 0
-TakenIsAForm = (t : List ℕ) → (older_of t).answer ≡ Fine → Form t (older_of t).sheet
+TakenIsAForm = (t : List ℕ) → (older_of t).answer ≡ Ok tt → Form t (older_of t).sheet
 
 -- what a text of any form gives is accepted as values
 abbrev pub OlderIsAccepted : Type 0
-OlderIsAccepted = (t : List ℕ) → (older_of t).answer ≡ Fine → accept_of (older_of t).sheet ≡ Fine
+OlderIsAccepted = (t : List ℕ) → (older_of t).answer ≡ Ok tt → accept_of (older_of t).sheet ≡ Ok tt
 
 -- what is written of it is read as the sheet that was read
 abbrev pub ConvertedIsRead : Type 0
-ConvertedIsRead = (t : List ℕ) → (older_of t).answer ≡ Fine → read_of (text_of (older_of t).sheet) ≡ older_of t
+ConvertedIsRead = (t : List ℕ) → (older_of t).answer ≡ Ok tt → read_of (text_of (older_of t).sheet) ≡ older_of t
 
 -- a text in today's form is the same to both
 abbrev pub TodayIsRead : Type 0
-TodayIsRead = (t : List ℕ) → (read_of t).answer ≡ Fine → older_of t ≡ read_of t
+TodayIsRead = (t : List ℕ) → (read_of t).answer ≡ Ok tt → older_of t ≡ read_of t
 
 -- and comes back byte for byte
 abbrev pub TodayComesBack : Type 0
 TodayComesBack =
-    (t old : List ℕ) → (read_of t).answer ≡ Fine → length t ≤ length old
-    → (converted_of t (length old) ≡ record { answer = Fine; length = length t }) × (converted_bytes t old ≡ t ++ drop (length t) old)
+    (t old : List ℕ) → (read_of t).answer ≡ Ok tt → length t ≤ length old
+    → (converted_of t (length old) ≡ record { answer = Ok tt; length = length t }) × (converted_bytes t old ≡ t ++ drop (length t) old)
 
 -- converting what was converted changes nothing
 abbrev pub TwiceIsOnce : Type 0
 TwiceIsOnce =
-    (t old : List ℕ) → (converted_of t (length old)).answer ≡ Fine
+    (t old : List ℕ) → (converted_of t (length old)).answer ≡ Ok tt
     → (converted_of (take (converted_of t (length old)).length (converted_bytes t old)) (length old) ≡ converted_of t (length old))
     × (converted_bytes (take (converted_of t (length old)).length (converted_bytes t old)) old ≡ converted_bytes t old)
 

@@ -1,9 +1,8 @@
 -- What is promised of reading and writing, each with the paper's sentence. proofs/ has a proof of each type.
-use Rattle.std.specs.Prelude.{ℕ, ◌+◌, ◌-◌, ◌≤◌, ◌<◌, ◌≡◌, false, List, ◌++◌, length, get_or, take, replicate}
+use Rattle.std.specs.Prelude.{ℕ, ◌+◌, ◌-◌, ◌≤◌, ◌<◌, ◌≡◌, false, List, ◌++◌, length, get_or, take, replicate, Ok}
 use Rattle.sheet.specs.declared.Phase.{Phase}
 use Rattle.sheet.specs.declared.Point.{Point}
 use Rattle.sheet.specs.declared.Sheet.{Sheet}
-use Rattle.sheet.specs.declared.Answer.TheVariants.{Fine}
 use Rattle.sheet.specs.Entries.{Shaped}
 use Rattle.sheet.specs.Refusals.{is_fine}
 use Rattle.sheet.specs.Zero.{zero_phase, zero_point}
@@ -56,7 +55,7 @@ trimmed s =
 
 -- sheet to text to sheet: the text of an accepted sheet is read as that sheet; "reading leaves them 0"
 abbrev pub SheetToText : Type 0
-SheetToText = (s : Sheet) → Shaped s → accept_of s ≡ Fine → read_of (text_of s) ≡ record { answer = Fine; sheet = trimmed s }
+SheetToText = (s : Sheet) → Shaped s → accept_of s ≡ Ok tt → read_of (text_of s) ≡ record { answer = Ok tt; sheet = trimmed s }
 
 -- the entries past the counts are 0
 pub record Blank (s : Sheet) : Type 0 where
@@ -66,15 +65,15 @@ pub record Blank (s : Sheet) : Type 0 where
 
 -- so it is the same sheet where they are 0 already
 abbrev pub SheetToSheet : Type 0
-SheetToSheet = (s : Sheet) → Shaped s → Blank s → accept_of s ≡ Fine → read_of (text_of s) ≡ record { answer = Fine; sheet = s }
+SheetToSheet = (s : Sheet) → Shaped s → Blank s → accept_of s ≡ Ok tt → read_of (text_of s) ≡ record { answer = Ok tt; sheet = s }
 
 -- accepted text to sheet to text
 abbrev pub TextToText : Type 0
-TextToText = (t : List ℕ) (s : Sheet) → read_of t ≡ record { answer = Fine; sheet = s } → text_of s ≡ t
+TextToText = (t : List ℕ) (s : Sheet) → read_of t ≡ record { answer = Ok tt; sheet = s } → text_of s ≡ t
 
 -- what a text gives is accepted as values too: "A sheet handed over as values .. meets 2 to 10 again", and 12
 abbrev pub ReadIsAccepted : Type 0
-ReadIsAccepted = (t : List ℕ) → (read_of t).answer ≡ Fine → accept_of (read_of t).sheet ≡ Fine
+ReadIsAccepted = (t : List ℕ) → (read_of t).answer ≡ Ok tt → accept_of (read_of t).sheet ≡ Ok tt
 
 -- "meets 2 to 10 again .. before 11"; 12 too, which is "after 10"
 abbrev pub WriteRefusesAlike : Type 0
@@ -82,14 +81,14 @@ WriteRefusesAlike = (s : Sheet) (room : ℕ) → is_fine (accept_of s) ≡ false
 
 -- what was written is the sheet's text
 abbrev pub WrittenIsText : Type 0
-WrittenIsText = (s : Sheet) (old : List ℕ) → (written_of s (length old)).answer ≡ Fine → take (written_of s (length old)).length (bytes_of s old) ≡ text_of s
+WrittenIsText = (s : Sheet) (old : List ℕ) → (written_of s (length old)).answer ≡ Ok tt → take (written_of s (length old)).length (bytes_of s old) ≡ text_of s
 
 -- no text of a sheet, and so no text that is read, is longer than the table lets it be
 abbrev pub TextIsShort : Type 0
 TextIsShort = (s : Sheet) → length (text_of s) ≤ longest
 
 abbrev pub ReadIsShort : Type 0
-ReadIsShort = (t : List ℕ) → (read_of t).answer ≡ Fine → length t ≤ longest
+ReadIsShort = (t : List ℕ) → (read_of t).answer ≡ Ok tt → length t ≤ longest
 
 -- a longer text, cut one byte past that, gets the reply of the whole text: the buffer of a program needs no more
 abbrev pub CutIsSame : Type 0

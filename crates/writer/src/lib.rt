@@ -1,17 +1,17 @@
 // Writes a site sheet as its text.
 #![tactic(auto)]
 
-ghost use Rattle.std.specs.Prelude.{◌≡◌, [], ◌∷◌, true, ◌+◌, ◌≤◌, ◌<◌, min, leb, eqb, length, take};
-ghost use Rattle.rows.specs.Table.{list, row_count, number_count};
+ghost use Rattle.std.specs.Prelude.{◌≡◌, [], ◌∷◌, true, ◌+◌, ◌≤◌, ◌<◌, min, leb, length, take};
+ghost use Rattle.rows.specs.Table.{is_list, row_count, number_count};
 ghost use Rattle.rows.specs.Marks.{mark_of, word_of};
 ghost use Rattle.text.specs.Digits.{digits};
 ghost use Rattle.text.specs.Text.{signed_text, field_text, fields_text, list_text, values_text, row_text, text_from};
-ghost use Rattle.text.specs.Write.{Put, written_of, bytes_of};
+ghost use Rattle.text.specs.Write.{Put, told, written_of, bytes_of};
 
 use longest::LONGEST;
 use rows::table::{MOST_PHASES, MOST_POINTS};
-use rows::{NUMBERS, ROWS, table};
-use sheet::{Answer, Refusal, Sheet};
+use rows::{Form, NUMBERS, ROWS, table};
+use sheet::{Refusal, Refused, Sheet};
 use text::Written;
 
 // How long the line of a phase, that of a point, and all the others together can be.
@@ -28,7 +28,6 @@ fn put(out: &mut [u8], at: usize, x: u8) -> usize
 {
     if at < out.len() {
         out[at] = x;
-        return at + 1;
     }
     at + 1
 }
@@ -38,11 +37,8 @@ fn put_word(out: &mut [u8], at: usize, w: &[u8]) -> usize
     ensures { Put out.old out.new at result w.now }
 {
     let mut p = at;
-    let mut i: usize = 0;
-    while i < w.len() {
-        let x = w[i];
-        p = put(out, p, x);
-        i = i + 1;
+    for b in w {
+        p = put(out, p, *b);
     }
     p
 }
@@ -53,14 +49,14 @@ fn put_number(out: &mut [u8], at: usize, v: u32) -> usize
     ensures { Put out.old out.new at result (digits v) }
 {
     if v < 10 {
-        put(out, at, (48 + v % 10) as u8)
+        put(out, at, b'0' + (v % 10) as u8)
     } else {
         let p = put_number(out, at, v / 10);
-        put(out, p, (48 + v % 10) as u8)
+        put(out, p, b'0' + (v % 10) as u8)
     }
 }
 
-// A vehicle's word; none of what is no vehicle.
+// A vehicle's word; none of what is no vehicle. A sheet's numbers stand in one array, and a vehicle is a number there (`word_of` of the table).
 fn put_vehicle(out: &mut [u8], at: usize, x: u32) -> usize
     requires { at ≤ 9990 }
     ensures { Put out.old out.new at result (word_of x) }
@@ -80,21 +76,22 @@ fn put_signed(out: &mut [u8], at: usize, x: u32) -> usize
     ensures { Put out.old out.new at result (signed_text x) }
 {
     if x < 1000000 {
-        let p = put(out, at, 45);
+        let p = put(out, at, b'-');
         put_number(out, p, (1000000 - x) % 1000000)
     } else {
         put_number(out, at, (x - 1000000) % 1000000)
     }
 }
 
-fn put_field(out: &mut [u8], at: usize, form: usize, x: u32) -> usize
+#[tactic(auto, unfolding(text::specs::Text::field_text, units::specs::Numbers::pick))]
+fn put_field(out: &mut [u8], at: usize, form: Form, x: u32) -> usize
     requires { at ≤ 9980 }
     ensures { Put out.old out.new at result (field_text form x) }
 {
     match form {
-        rows::WORDED => put_vehicle(out, at, x),
-        rows::SIGNED => put_signed(out, at, x),
-        _ => put_number(out, at, x % 1000000),
+        Form::Worded => put_vehicle(out, at, x),
+        Form::Signed => put_signed(out, at, x),
+        Form::Plain | Form::Listed => put_number(out, at, x % 1000000),
     }
 }
 
@@ -104,9 +101,9 @@ fn put_mark(out: &mut [u8], at: usize, j: usize) -> usize
     ensures { Put out.old out.new at result (mark_of j) }
 {
     if j < 1 {
-        put(out, at, 61)
+        put(out, at, b'=')
     } else {
-        put(out, at, 44)
+        put(out, at, b',')
     }
 }
 
@@ -122,7 +119,7 @@ fn put_key(out: &mut [u8], at: usize, letters: [u8; 8], n: usize) -> usize
 fn put_fields(
     out: &mut [u8],
     at: usize,
-    form: usize,
+    form: Form,
     place: usize,
     n: usize,
     numbers: &[u32; NUMBERS],
@@ -131,29 +128,11 @@ fn put_fields(
     ensures { Put out.old out.new at result (fields_text form place n 0 numbers.now) }
 {
     let mut p = at;
-    let mut j: usize = 0;
-    while j < n {
-        let x = numbers[place + j];
+    for j in 0..n {
         let q = put_mark(out, p, j);
-        p = put_field(out, q, form, x);
-        j = j + 1;
+        p = put_field(out, q, form, numbers[place + j]);
     }
     p
-}
-
-fn wide(x: u32) -> usize
-    ensures { (result ≡ x) × (result < 4294967296) }
-{
-    x as usize
-}
-
-fn at_most(count: usize, most: usize) -> usize
-    ensures { result ≡ min count most }
-{
-    if count < most {
-        return count;
-    }
-    most
 }
 
 // A list of at most that many numbers, whose count stands before them; 0 for none.
@@ -161,30 +140,29 @@ fn put_list(out: &mut [u8], at: usize, place: usize, most: usize, numbers: &[u32
     requires { (place + 1 + most ≤ number_count) × (at ≤ 8900) }
     ensures { Put out.old out.new at result (list_text place most numbers.now) }
 {
-    let count = wide(numbers[place]);
+    let count = numbers[place] as usize;
     if count == 0 {
         return put_word(out, at, b"=0");
     }
-    let n = at_most(count, most);
-    put_fields(out, at, table::PLAIN, place + 1, n, numbers)
+    put_fields(out, at, Form::Plain, place + 1, count.min(most), numbers)
 }
 
 // The numbers of a line by its form, which has room for n from a place on.
 fn put_values(
     out: &mut [u8],
     at: usize,
-    form: usize,
+    form: Form,
     place: usize,
     n: usize,
     numbers: &[u32; NUMBERS],
 ) -> usize
-    requires { (place + n ≤ number_count) × (eqb form list ≡ true → 2 ≤ n) × (at ≤ 8900) }
+    requires { (place + n ≤ number_count) × (is_list form ≡ true → 2 ≤ n) × (at ≤ 8900) }
     ensures { Put out.old out.new at result (values_text form place n numbers.now) }
 {
-    if form == rows::LIST {
-        return put_list(out, at, place, n - 1, numbers);
+    match form {
+        Form::Listed => put_list(out, at, place, n - 1, numbers),
+        _ => put_fields(out, at, form, place, n, numbers),
     }
-    put_fields(out, at, form, place, n, numbers)
 }
 
 // The line of a row.
@@ -193,27 +171,21 @@ fn put_line(out: &mut [u8], at: usize, row: usize, numbers: &[u32; NUMBERS]) -> 
     ensures { Put out.old out.new at result (row_text row numbers.now) }
 {
     let facts = rows::facts(row);
-    let letters = facts.0;
-    let form = facts.2;
     let place = places::place(row);
     let n = places::width(row);
-    let p = put_key(out, at, letters, facts.1);
-    let q = put_values(out, p, form, place, n, numbers);
-    put(out, q, 10)
+    let p = put_key(out, at, facts.letters, facts.length);
+    let q = put_values(out, p, facts.form, place, n, numbers);
+    put(out, q, b'\n')
 }
 
 // All lines.
 fn put_lines(out: &mut [u8], numbers: &[u32; NUMBERS]) -> usize
     ensures { Put out.old out.new 0 result (text_from numbers.now row_count 0) }
 {
-    let mut p: usize = 0;
-    let mut row: usize = 0;
-    while row < ROWS {
+    let mut p = 0;
+    for row in 0..ROWS {
         if places::present(numbers, row) {
             p = put_line(out, p, row, numbers);
-            row += 1;
-        } else {
-            row += 1;
         }
     }
     p
@@ -224,8 +196,8 @@ fn put_lines(out: &mut [u8], numbers: &[u32; NUMBERS]) -> usize
 fn has_room(out: &mut [u8], numbers: &[u32; NUMBERS]) -> bool
     ensures { (result ≡ leb (length (text_from numbers.now row_count 0)) (length out.old)) × (out.new ≡ out.old) }
 {
-    let phases = wide(numbers[table::PHASES]);
-    let points = wide(numbers[table::POINTS]);
+    let phases = numbers[table::PHASES] as usize;
+    let points = numbers[table::POINTS] as usize;
     if OTHER_LINES + PHASE_LINE * phases + POINT_LINE * points <= out.len() {
         return true;
     }
@@ -233,27 +205,28 @@ fn has_room(out: &mut [u8], numbers: &[u32; NUMBERS]) -> bool
     needed <= out.len()
 }
 
-// Writes a site sheet.
+// The text's length, once it is written.
+fn written(sheet: Sheet, out: &mut [u8]) -> Result<usize, Refused>
+    ensures { (told result ≡ written_of sheet (length out.old)) × (out.new ≡ bytes_of sheet out.old) }
+{
+    accept::accept(sheet)?;
+    let numbers = to_numbers::flat(sheet);
+    answers::refuse_unless(has_room(out, &numbers), Refusal::NoRoom, 0)?;
+    Ok(put_lines(out, &numbers))
+}
+
+// Writes a site sheet. A refusal comes with the length 0.
 pub fn write(sheet: Sheet, out: &mut [u8]) -> Written
     ensures { (result ≡ written_of sheet (length out.old)) × (out.new ≡ bytes_of sheet out.old) }
 {
-    let answer = accept::accept(sheet);
-    if answers::is_fine(answer) {
-        let numbers = to_numbers::flat(sheet);
-        if has_room(out, &numbers) {
-            let length = put_lines(out, &numbers);
-            return Written {
-                answer: Answer::Fine,
-                length: length,
-            };
-        }
-        return Written {
-            answer: Answer::Refused(Refusal::NoRoom, 0),
+    match written(sheet, out) {
+        Ok(length) => Written {
+            answer: Ok(()),
+            length,
+        },
+        Err(refused) => Written {
+            answer: Err(refused),
             length: 0,
-        };
-    }
-    Written {
-        answer: answer,
-        length: 0,
+        },
     }
 }

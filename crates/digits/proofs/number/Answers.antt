@@ -1,78 +1,51 @@
 -- `digits::number` meets its contract: at each turn the digits left make the same number. Assumes nothing.
+use Prim.Native.Nat.{◌≤◌, ◌<◌}
 use mathlib.Core.Path.{◌≡◌, sym, ◌∙◌}
-use mathlib.Core.Bool.{false}
-use lib.Dec.{ltb}
-use lib.ListN.{get_or}
-use borrow.Author.Tests.{ltb-true, ltb-false}
+use borrow.Author.Rules.{rules}
+use native.Mathlib.Omega.{arith}
+use lib.ListN.{length, get_or}
 use Rattle.figures.specs.Figures.{digit_of}
 use Rattle.figures.proofs.Cases.{more_out, more_stop, more_zero, more_long, more_step, number_out, number_bad, number_step}
-use Rattle.digits.proofs.Bytes.{digit_byte, digit_worth}
-use native.Mathlib.Omega.{arith}
+use Rattle.digits.proofs.Bytes.{worth, small, no_digit}
+use Rattle.digits.proofs.number.Goals.{then-value-eq0-via-then-value-eq0, then-value-eq0-via-else-value-eq0+then-value-gt99999}
 use Rattle.digits.proofs.number.Goals as goal
 
-pub returns-then-s-at : goal.returns-then-s-at
-returns-then-s-at c =
-    sym (number_out c.args.s.now c.args.at c.if-s-at.true)
+pub returns-in_err-first : goal.returns-in_err-first
+returns-in_err-first c = rw c.from_residual.ensures (search (rules, number_out))
 
-pub returns-then-ends : goal.returns-then-ends
-returns-then-ends c =
-    sym (number_bad c.args.s.now c.args.at c.if-s-at.false (ltb-true _ _ (sym c.ends.ensures ∙ c.if-ends.true)))
+pub returns-then-not-is_ascii_digit : goal.returns-then-not-is_ascii_digit
+returns-then-not-is_ascii_digit c = search (rules, number_bad, no_digit)
 
-pub overflow_sub-v : goal.overflow_sub-v
-overflow_sub-v c =
-    digit_byte _ (sym c.ends.ensures ∙ c.if-ends.false)
+pub loop-next-init : goal.loop-next-init
+loop-next-init c =
+    let s = c.args.s.now in
+    let b = get_or s c.args.at 0 in
+    let within : c.args.at < length s = search rules in
+    let digit : (48 ≤ b) × (b ≤ 57) = search rules in
+    let e : c.from-value.result ≡ digit_of b = search (rules, worth) in
+    (omega (arith, within), omega (arith, e, small b digit), rw e (sym (number_step s c.args.at within (small b digit))))
 
-pub overflow_cast-v : goal.overflow_cast-v
-overflow_cast-v c =
-    let digit : ltb 9 (digit_of (get_or c.args.s.now c.args.at 0)) ≡ false = sym c.ends.ensures ∙ c.if-ends.false in
-    let small = ltb-false 9 (digit_of (get_or c.args.s.now c.args.at 0)) digit in
-    let worth = digit_worth (get_or c.args.s.now c.args.at 0) digit in
-    omega (arith, small, worth)
+pub returns-then-not-is_ascii_digit-2 : goal.returns-then-not-is_ascii_digit-2
+returns-then-not-is_ascii_digit-2 c =
+    sym (more_stop c.args.s.now c.loop-next.next c.loop-next.value c.loop-next-test.true (no_digit _ c.if-not-is_ascii_digit-2.ensures.cases)) ∙ c.loop-next.invariant.2
 
-pub loop-i-init : goal.loop-i-init
-loop-i-init c =
-    let digit : ltb 9 (digit_of (get_or c.args.s.now c.args.at 0)) ≡ false = sym c.ends.ensures ∙ c.if-ends.false in
-    let small = ltb-false 9 (digit_of (get_or c.args.s.now c.args.at 0)) digit in
-    let worth = digit_worth (get_or c.args.s.now c.args.at 0) digit in
-    (omega arith, omega (arith, small, worth), rw (← worth) (sym (number_step c.args.s.now c.args.at c.if-s-at.false small)))
+pub returns-then-value-eq0 : goal.returns-then-value-eq0
+returns-then-value-eq0 c =
+    let d = small _ c.if-not-is_ascii_digit-2.ensures.cases in
+    elim c.then-value-eq0.branch [
+      | then-value-eq0-via-then-value-eq0 w ↦ sym (more_zero c.args.s.now c.loop-next.next c.loop-next.value c.loop-next-test.true d (omega arith)) ∙ c.loop-next.invariant.2
+      | then-value-eq0-via-else-value-eq0+then-value-gt99999 w ↦ sym (more_long c.args.s.now c.loop-next.next c.loop-next.value c.loop-next-test.true d (omega arith) (omega arith)) ∙ c.loop-next.invariant.2
+    ]
 
-pub returns-then-ends-2 : goal.returns-then-ends-2
-returns-then-ends-2 c =
-    sym (more_stop c.args.s.now c.loop-i.i c.loop-i.v c.loop-i-test.true (ltb-true _ _ (sym c.ends-in-loop-i.ensures ∙ c.if-ends-2.true))) ∙ c.loop-i.invariant.2
-
-pub returns-then-v-eq0 : goal.returns-then-v-eq0
-returns-then-v-eq0 c =
-    sym (more_zero c.args.s.now c.loop-i.i c.loop-i.v c.loop-i-test.true (ltb-false _ _ (sym c.ends-in-loop-i.ensures ∙ c.if-ends-2.false)) (omega arith)) ∙ c.loop-i.invariant.2
-
-pub returns-then-v-gt99999 : goal.returns-then-v-gt99999
-returns-then-v-gt99999 c =
-    sym (more_long c.args.s.now c.loop-i.i c.loop-i.v c.loop-i-test.true (ltb-false _ _ (sym c.ends-in-loop-i.ensures ∙ c.if-ends-2.false)) (omega arith) (omega arith)) ∙ c.loop-i.invariant.2
-
-pub overflow_sub-v-in-loop-i : goal.overflow_sub-v-in-loop-i
-overflow_sub-v-in-loop-i c =
-    digit_byte _ (sym c.ends-in-loop-i.ensures ∙ c.if-ends-2.false)
-
-pub overflow_cast-v-in-loop-i : goal.overflow_cast-v-in-loop-i
-overflow_cast-v-in-loop-i c =
-    let digit : ltb 9 (digit_of (get_or c.args.s.now c.loop-i.i 0)) ≡ false = sym c.ends-in-loop-i.ensures ∙ c.if-ends-2.false in
-    let small = ltb-false 9 (digit_of (get_or c.args.s.now c.loop-i.i 0)) digit in
-    let worth = digit_worth (get_or c.args.s.now c.loop-i.i 0) digit in
-    omega (arith, small, worth)
-
-pub overflow_add-v : goal.overflow_add-v
-overflow_add-v c =
-    let digit : ltb 9 (digit_of (get_or c.args.s.now c.loop-i.i 0)) ≡ false = sym c.ends-in-loop-i.ensures ∙ c.if-ends-2.false in
-    let small = ltb-false 9 (digit_of (get_or c.args.s.now c.loop-i.i 0)) digit in
-    let worth = digit_worth (get_or c.args.s.now c.loop-i.i 0) digit in
-    omega (arith, small, worth)
-
-pub loop-i-preserved : goal.loop-i-preserved
-loop-i-preserved c =
-    let digit : ltb 9 (digit_of (get_or c.args.s.now c.loop-i.i 0)) ≡ false = sym c.ends-in-loop-i.ensures ∙ c.if-ends-2.false in
-    let small = ltb-false 9 (digit_of (get_or c.args.s.now c.loop-i.i 0)) digit in
-    let worth = digit_worth (get_or c.args.s.now c.loop-i.i 0) digit in
-    (omega arith, omega (arith, small, worth), rw (← worth) (sym (more_step c.args.s.now c.loop-i.i c.loop-i.v c.loop-i-test.true small (omega arith) (omega arith)) ∙ c.loop-i.invariant.2))
+pub loop-next-preserved : goal.loop-next-preserved
+loop-next-preserved c =
+    let b = get_or c.args.s.now c.loop-next.next 0 in
+    let h = c.if-not-is_ascii_digit-2.ensures.cases in
+    let e : c.from.result ≡ digit_of b = c.from.ensures ∙ sym (worth b h) in
+    let d = small b h in
+    (omega arith, omega (arith, e, d), rw e (sym (more_step c.args.s.now c.loop-next.next c.loop-next.value c.loop-next-test.true d (omega arith) (omega arith)) ∙ c.loop-next.invariant.2))
 
 pub returns : goal.returns
 returns c =
-    sym (more_out c.args.s.now c.loop-i.i c.loop-i.v (omega arith)) ∙ c.loop-i.invariant.2
+    let e : c.loop-next.next ≡ length c.args.s.now = omega arith in
+    rw (← e) (sym (more_out c.args.s.now c.loop-next.next c.loop-next.value (omega arith)) ∙ c.loop-next.invariant.2)

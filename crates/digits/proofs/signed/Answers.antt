@@ -9,33 +9,33 @@ use Rattle.digits.proofs.signed.Goals as goal
 
 pub overflow_add-result : goal.overflow_add-result
 overflow_add-result c =
-    omega (arith, number_small _ _ _ _ (sym c.number.ensures ∙ c.in-Is.is))
+    omega (arith, number_small _ _ _ _ (sym c.number.ensures ∙ c.in_ok-plain.was))
 
 pub overflow_sub-result : goal.overflow_sub-result
 overflow_sub-result c =
-    omega (arith, number_small _ _ _ _ (sym c.number-in-At.ensures ∙ c.in-Is-number.is))
+    omega (arith, number_small _ _ _ _ (sym c.number-2.ensures ∙ c.in_ok-below.was))
 
-pub returns-in-Bad : goal.returns-in-Bad
+pub returns-in_err-plain : goal.returns-in_err-plain
 unfolding signed_at
-returns-in-Bad c =
-    rw (sym c.after.ensures ∙ c.in-Nowhere.is, sym c.number.ensures ∙ c.in-Bad.is) refl
+returns-in_err-plain c =
+    rw (c.from_residual.ensures, sym c.after.ensures ∙ c.in_default.is, sym c.number.ensures ∙ c.in_err-plain.was) refl
 
-pub returns-in-Is : goal.returns-in-Is
+pub returns-in_default : goal.returns-in_default
 unfolding signed_at
-returns-in-Is c =
-    rw (sym c.after.ensures ∙ c.in-Nowhere.is, sym c.number.ensures ∙ c.in-Is.is) refl
+returns-in_default c =
+    rw (sym c.after.ensures ∙ c.in_default.is, sym c.number.ensures ∙ c.in_ok-plain.was) refl
 
-pub returns-in-Bad-number : goal.returns-in-Bad-number
+pub returns-in_err-below : goal.returns-in_err-below
 unfolding signed_at
-returns-in-Bad-number c =
-    rw (sym c.after.ensures ∙ c.in-At.is, sym c.number-in-At.ensures ∙ c.in-Bad-number.is) refl
+returns-in_err-below c =
+    rw (c.from_residual-in_err-below.ensures, sym c.after.ensures ∙ c.in-Some.is, sym c.number-2.ensures ∙ c.in_err-below.was) refl
 
-pub returns-then-v-lt1 : goal.returns-then-v-lt1
+pub returns-then-below-eq0 : goal.returns-then-below-eq0
 unfolding signed_at pick
-returns-then-v-lt1 c =
-    rw (sym c.after.ensures ∙ c.in-At.is, sym c.number-in-At.ensures ∙ c.in-Is-number.is, lt-ltb _ _ c.if-v-lt1.true) refl
+returns-then-below-eq0 c =
+    rw (sym c.after.ensures ∙ c.in-Some.is, sym c.number-2.ensures ∙ c.in_ok-below.was, lt-ltb c.in_ok-below.below.value 1 (omega arith)) refl
 
-pub returns-else-v-lt1 : goal.returns-else-v-lt1
+pub returns : goal.returns
 unfolding signed_at pick
-returns-else-v-lt1 c =
-    rw (sym c.after.ensures ∙ c.in-At.is, sym c.number-in-At.ensures ∙ c.in-Is-number.is, le-ltb _ _ c.if-v-lt1.false) refl
+returns c =
+    rw (sym c.after.ensures ∙ c.in-Some.is, sym c.number-2.ensures ∙ c.in_ok-below.was, le-ltb c.in_ok-below.below.value 1 (omega arith)) refl

@@ -1,20 +1,14 @@
 -- `line_reader::line` meets its contract: the key, then the numbers and the line feed. Assumes nothing.
-use mathlib.Core.Path.{refl, sym, ◌∙◌, ap}
-use Rattle.text.specs.Line.{Taken, ended}
+use mathlib.Core.Path.{refl, sym, ◌∙◌}
+use Rattle.units.specs.Numbers.{pick}
+use Rattle.text.proofs.Cases.{fed}
 use Rattle.line_reader.proofs.line.Goals as goal
 
-pub key-requires : goal.key-requires
-key-requires c =
-    (c.requires.0, c.requires.1, c.requires.2)
+pub returns-in_err-end : goal.returns-in_err-end
+unfolding pick
+returns-in_err-end c =
+    rw (c.from_residual-in_err-end.ensures, sym c.after.ensures ∙ c.in_ok-start.was, ← c.values.ensures, c.in_err-end.was) refl
 
-pub values-found-requires : goal.values-found-requires
-values-found-requires c =
-    (c.requires.3, c.requires.4, c.requires.5, c.requires.6)
-
-pub returns-in-Nowhere : goal.returns-in-Nowhere
-returns-in-Nowhere c =
-    rw (sym c.key.ensures ∙ c.in-Nowhere.is) refl
-
-pub returns-in-At : goal.returns-in-At
-returns-in-At c =
-    rw (sym c.key.ensures ∙ c.in-At.is) (c.ended.ensures c.values-found.new.v ∙ ap (λ (t : Taken). ended c.args.s.now t) c.values-found.ensures)
+pub returns : goal.returns
+returns c =
+    rw (c.after-2.ensures, sym c.after.ensures ∙ c.in_ok-start.was, ← c.values.ensures, c.in_ok-end.was) (fed c.args.s.now c.in_ok-end.end c.values.new.v)

@@ -11,12 +11,12 @@ returns-then-begins c =
 
 pub offset_bounds-v-place : goal.offset_bounds-v-place
 offset_bounds-v-place c =
-    omega (arith, c.place-place.ensures, place_room c.args.row c.requires, width_some c.args.row c.requires)
+    omega (arith, c.place.ensures, place_room c.args.row c.requires, width_some c.args.row c.requires)
 
 pub bounds-v-place : goal.bounds-v-place
 bounds-v-place c =
-    omega (arith, c.place-place.ensures, place_room c.args.row c.requires, width_some c.args.row c.requires)
+    omega (arith, c.place.ensures, place_room c.args.row c.requires, width_some c.args.row c.requires)
 
 pub returns : goal.returns
 returns c =
-    (pick_not _ _ _ _ (sym c.begins.ensures ∙ c.if-begins.false) refl, pick_yes _ _ _ _ refl (rw (c.place-place.ensures, c.stands_for.ensures) refl))
+    (pick_not _ _ _ _ (sym c.begins.ensures ∙ c.if-begins.false) refl, pick_yes _ _ _ _ refl (rw (c.place.ensures, c.stands_for.ensures) refl))

@@ -1,24 +1,27 @@
 -- `reader::begun` meets its contract: the lines decide, then the whole. Assumes nothing.
-use mathlib.Core.Path.{sym, ◌∙◌, ap}
-use Rattle.sheet.proofs.Answers.{fine_or, bad_or}
-use Rattle.sheet.specs.declared.Answer.{Answer}
-use Rattle.numbers.specs.Flat.{sheet_of}
-use Rattle.faults.specs.Whole.{whole_fault}
-use Rattle.text.specs.Read.{reply, read_by}
+use mathlib.Core.Path.{refl}
+use Rattle.std.specs.Prelude.{Err}
+use Rattle.std.proofs.lemmas.Result.{err_from_is_err_and}
+use Rattle.sheet.specs.Refusals.{or_else}
+use Rattle.sheet.specs.Zero.{zero_sheet}
+use Rattle.text.specs.Read.{read_by}
 use Rattle.text.proofs.Cases.{reply_bad}
 use Rattle.reader.proofs.begun.Goals as goal
 
-pub returns-then-is_fine : goal.returns-then-is_fine
-unfolding read_by
-returns-then-is_fine c =
-    let s = c.sheet_of-s.ensures in
-    let answer = c.whole_fault.ensures ∙ ap whole_fault s ∙ sym (fine_or c.lines-found.result.answer (whole_fault (sheet_of c.lines-found.new.v)) (sym c.is_fine.ensures ∙ c.if-is_fine.true)) in
-    rw (← c.lines-found.ensures) (c.reply.ensures ∙ λ i. reply (answer i) (s i))
+pub returns-in_err-lines : goal.returns-in_err-lines
+unfolding read_by or_else
+returns-in_err-lines c =
+    let p = err_from_is_err_and c.from_residual.result c.from_residual.ensures.1 in
+    rw (← c.lines.ensures.0, c.in_err-lines.was, p.1, p.2) (reply_bad (Err c.in_err-lines.field-0.0) zero_sheet _ refl)
+
+pub returns-in_err-whole_fault : goal.returns-in_err-whole_fault
+unfolding read_by or_else
+returns-in_err-whole_fault c =
+    let p = err_from_is_err_and c.from_residual-in_err-whole_fault.result c.from_residual-in_err-whole_fault.ensures.1 in
+    rw (← c.lines.ensures.0, ← c.lines.ensures.1, c.in_ok-lines.was, ← c.sheet_of-sheet.ensures, ← c.whole_fault.ensures, c.in_err-whole_fault.was, p.1, p.2)
+    (reply_bad (Err c.in_err-whole_fault.field-0.0) zero_sheet _ refl)
 
 pub returns : goal.returns
-unfolding read_by
+unfolding read_by or_else
 returns c =
-    let bad = sym c.is_fine.ensures ∙ c.if-is_fine.false in
-    let s = sheet_of c.lines-found.new.v in
-    let answer = sym (bad_or c.lines-found.result.answer (whole_fault s) bad) in
-    rw (← c.lines-found.ensures) (c.reply-2.ensures ∙ reply_bad c.lines-found.result.answer c.zero_sheet-zero.result s bad ∙ ap (λ (a : Answer). reply a s) answer)
+    rw (← c.lines.ensures.0, ← c.lines.ensures.1, c.in_ok-lines.was, ← c.sheet_of-sheet.ensures, ← c.whole_fault.ensures, c.in_ok-whole_fault.was) refl

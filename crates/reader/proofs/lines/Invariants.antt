@@ -6,7 +6,4 @@ use Rattle.text.specs.Read.{lines_from, may_lack}
 use Rattle.reader.proofs.lines.Given as goal
 
 abbrev pub invariant-loop-row : goal.invariant-loop-row
-invariant-loop-row l = (l.row ≤ row_count) × (l.number ≤ l.row + 1) × (1 ≤ l.number) × (lines_from (may_lack l.older) l.s (row_count - l.row) l.row l.number l.at l.v ≡ lines_from (may_lack l.older) l.s row_count 0 1 0 l.initial.v)
-
-abbrev pub decreases-loop-row : goal.decreases-loop-row
-decreases-loop-row l = row_count - l.row
+invariant-loop-row l = (l.number ≤ l.row + 1) × (lines_from (may_lack l.older) l.s (row_count - l.row) l.row l.number l.at l.v ≡ lines_from (may_lack l.older) l.s row_count 0 1 0 l.initial.v)

@@ -1,14 +1,15 @@
--- `reader::reading` meets its contract: without the first key the first line is malformed. Assumes nothing.
-use mathlib.Core.Path.{sym, ◌∙◌, ap}
-use Rattle.sheet.specs.declared.Sheet.{Sheet}
-use Rattle.sheet.specs.declared.Answer.TheVariants.{Refused}
-use Rattle.sheet.specs.declared.Refusal.TheVariants.{Malformed}
-use Rattle.rows.specs.Table.{key_of, kind_of}
+-- `reader::reading` meets its contract: the sheet, or the zero sheet beside the refusal. Assumes nothing.
+use mathlib.Core.Path.{refl}
+use Rattle.units.specs.Numbers.{pick}
 use Rattle.text.specs.Read.{reply}
-use Rattle.text.proofs.Cases.{not_begun}
 use Rattle.reader.proofs.reading.Goals as goal
 
-pub returns-in-Nowhere : goal.returns-in-Nowhere
-unfolding key_of kind_of
-returns-in-Nowhere c =
-    c.reply.ensures ∙ ap (λ (s : Sheet). reply (Refused Malformed 1) s) c.zero_sheet-zero.ensures ∙ not_begun c.args.older c.args.text.now (sym c.after.ensures ∙ c.in-Nowhere.is)
+pub returns-in-Ok : goal.returns-in-Ok
+unfolding reply pick
+returns-in-Ok c =
+    rw (← c.sheet_in.ensures, c.in-Ok.is) refl
+
+pub returns-in-Err : goal.returns-in-Err
+unfolding reply pick
+returns-in-Err c =
+    rw (← c.sheet_in.ensures, c.in-Err.is, c.zero_sheet.ensures) refl

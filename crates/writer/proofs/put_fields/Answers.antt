@@ -1,6 +1,6 @@
 -- `writer::put_fields` meets its contract: at each turn a number more is stored. Assumes nothing.
 use native.Mathlib.Nat.{sub-zero}
-use Prim.Native.Nat.{◌+◌, ◌-◌}
+use Prim.Native.Nat.{◌+◌}
 use mathlib.Core.List.{◌++◌}
 use lib.ListN.{get_or}
 use Rattle.rows.specs.Marks.{mark_of}
@@ -13,24 +13,24 @@ use Rattle.writer.proofs.put_fields.Goals as goal
 
 pub loop-j-init : goal.loop-j-init
 loop-j-init c =
-    (omega arith, rw sub-zero (start _ _ _))
+    rw sub-zero (start _ _ _)
 
 pub put_mark-q-requires : goal.put_mark-q-requires
 put_mark-q-requires c =
-    let h = where_now _ c.loop-j.invariant.1 in omega (arith, short_fields c.args.form c.args.place c.args.n 0 c.args.numbers.now, eight_each c.args.form c.args.n)
+    let h = where_now _ c.loop-j.invariant in omega (arith, short_fields c.args.form c.args.place c.args.n 0 c.args.numbers.now, eight_each c.args.form c.args.n)
 
 pub put_field-p-requires : goal.put_field-p-requires
 put_field-p-requires c =
-    let h = where_now _ c.loop-j.invariant.1 in omega (arith, c.put_mark-q.ensures.place, mark_long c.loop-j.j, short_fields c.args.form c.args.place c.args.n 0 c.args.numbers.now, eight_each c.args.form c.args.n)
+    let h = where_now _ c.loop-j.invariant in omega (arith, c.put_mark-q.ensures.place, mark_long c.loop-j.j, short_fields c.args.form c.args.place c.args.n 0 c.args.numbers.now, eight_each c.args.form c.args.n)
 
 pub loop-j-preserved : goal.loop-j-preserved
 loop-j-preserved c =
-    (omega arith, next (mark_of c.loop-j.j ++ field_text c.args.form (get_or c.args.numbers.now (c.args.place + c.loop-j.j) 0)) _ (rw (fields_next c.args.form c.args.place c.args.n c.loop-j.j c.args.numbers.now c.loop-j-test.true) at c.loop-j.invariant.1) (put_then c.put_mark-q.ensures c.put_field-p.ensures))
+    next (mark_of c.loop-j.j ++ field_text c.args.form (get_or c.args.numbers.now (c.args.place + c.loop-j.j) 0)) _ (rw (fields_next c.args.form c.args.place c.args.n c.loop-j.j c.args.numbers.now c.loop-j-test.true) at c.loop-j.invariant) (put_then c.put_mark-q.ensures c.put_field-p.ensures)
 
 pub shape_of-out : goal.shape_of-out
 shape_of-out c =
-    doing_length c.loop-j.invariant.1
+    doing_length c.loop-j.invariant
 
 pub returns : goal.returns
 returns c =
-    end (rw (fields_over c.args.form c.args.place c.args.n c.loop-j.j c.args.numbers.now c.loop-j-test.false) at c.loop-j.invariant.1)
+    end (rw (fields_over c.args.form c.args.place c.args.n c.loop-j.j c.args.numbers.now c.loop-j-test.false) at c.loop-j.invariant)
