@@ -7,102 +7,74 @@ ghost use Rattle.phase.specs.Ending.{after_walk, walk_over, clearance_over, gree
 use phase::{Light, Settled, Walker};
 use sheet::Phase;
 
+#[tactic(auto, unfolding(units::specs::Numbers::pick, phase::specs::Ending::after_walk))]
 fn after_walk(p: Phase, walker: Walker) -> Walker
     ensures { result ≡ after_walk p walker }
 {
     match walker {
-        Walker::Walk(k) => if p.walk as u64 <= k {
-            Walker::Clearance(0)
-        } else {
-            Walker::Walk(k)
-        },
-        Walker::Clearance(k) => Walker::Clearance(k),
+        Walker::Walk(k) if u64::from(p.walk) <= k => Walker::Clearance(0),
+        _ => walker,
     }
 }
 
+#[tactic(auto, unfolding(phase::specs::Ending::walk_over))]
 fn walk_over(walker: Walker) -> bool
     ensures { result ≡ walk_over walker }
 {
-    match walker {
-        Walker::Walk(_) => false, // not before its clearance
-        Walker::Clearance(_) => true,
-    }
+    matches!(walker, Walker::Clearance(_))
 }
 
+#[tactic(auto, unfolding(phase::specs::Ending::clearance_over))]
 fn clearance_over(p: Phase, walker: Walker) -> bool
     ensures { result ≡ clearance_over p walker }
 {
-    match walker {
-        Walker::Walk(_) => false,
-        Walker::Clearance(k) => p.clearance as u64 <= k,
-    }
+    matches!(walker, Walker::Clearance(k) if u64::from(p.clearance) <= k)
 }
 
+#[tactic(auto, unfolding(units::specs::Numbers::pick, phase::specs::Ending::green_over))]
 fn green_over(p: Phase, walker: Walker, spent: u64) -> bool
     ensures { result ≡ green_over p walker spent }
 {
-    if intervals::green_time(p) <= spent {
-        if walk_over(walker) {
-            return if p.mode == 1 {
-                clearance_over(p, walker)
-            } else {
-                true
-            };
-        }
-        return false;
-    }
-    false
+    intervals::green_time(p) <= spent
+        && walk_over(walker)
+        && (p.mode != 1 || clearance_over(p, walker))
 }
 
+#[tactic(auto, unfolding(units::specs::Numbers::pick, phase::specs::Ending::after_green))]
 fn after_green(p: Phase, walker: Walker, light: Light) -> Light
     ensures { result ≡ after_green p walker light }
 {
     match light {
-        Light::Green(k) => if green_over(p, walker, k) {
-            Light::Yellow(0)
-        } else {
-            Light::Green(k)
-        },
-        Light::Yellow(k) => Light::Yellow(k),
-        Light::Red(k) => Light::Red(k),
+        Light::Green(k) if green_over(p, walker, k) => Light::Yellow(0),
+        _ => light,
     }
 }
 
+#[tactic(auto, unfolding(units::specs::Numbers::pick, phase::specs::Ending::after_yellow))]
 fn after_yellow(p: Phase, light: Light) -> Light
     ensures { result ≡ after_yellow p light }
 {
     match light {
-        Light::Green(k) => Light::Green(k),
-        Light::Yellow(k) => if p.yellow as u64 <= k {
-            Light::Red(0)
-        } else {
-            Light::Yellow(k)
-        },
-        Light::Red(k) => Light::Red(k),
+        Light::Yellow(k) if u64::from(p.yellow) <= k => Light::Red(0),
+        _ => light,
     }
 }
 
+#[tactic(auto, unfolding(units::specs::Numbers::pick, phase::specs::Ending::phase_over))]
 fn phase_over(p: Phase, light: Light, walker: Walker) -> bool
     ensures { result ≡ phase_over p light walker }
 {
-    match light {
-        Light::Green(_) => false,
-        Light::Yellow(_) => false,
-        Light::Red(k) => if p.red as u64 <= k {
-            clearance_over(p, walker)
-        } else {
-            false
-        },
-    }
+    matches!(light, Light::Red(k) if u64::from(p.red) <= k) && clearance_over(p, walker)
 }
 
+#[tactic(auto, unfolding(units::specs::Numbers::pick, phase::specs::Ending::over_or_stays))]
 fn over_or_stays(p: Phase, light: Light, walker: Walker) -> Settled
     ensures { result ≡ over_or_stays p light walker }
 {
     if phase_over(p, light, walker) {
-        Settled::Over
+        None
     } else {
-        Settled::Stays(light, walker)
+        Some((light, walker))
     }
 }
 

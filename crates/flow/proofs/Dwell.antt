@@ -26,7 +26,7 @@ use Rattle.flow.specs.Settling.{enter, settle_red, settle}
 use Rattle.flow.specs.Tick.{heard, after_times, after_command, after_call, ticked}
 use Rattle.flow.specs.Promises.{now, RedEnds, AllRedStays, AllRedEnds, NamedStarts, JudgedAfterTimes, JudgedInDwell, AsWithNone}
 use Rattle.flow.proofs.Rest.{kept}
-use Rattle.flow.proofs.Steps.{uncounted, on_time, left_on, called_off, by_steps}
+use Rattle.flow.proofs.Steps.{uncounted, on_time, left_on, by_steps}
 
 -- ---- the third step where the tick counts no call
 module _ (t : Lengths) (s : Sheet) (x : Now) (u : counting t x ≡ false) where

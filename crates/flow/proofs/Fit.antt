@@ -1,19 +1,18 @@
 -- A stage that fits still fits after each step of a tick: what is entered has 0 spent, and what is allowed next is listed. Assumes nothing.
 use Prim.Native.Nat.{ℕ}
-use mathlib.Core.Bool.{Bool, true, false}
+use mathlib.Core.Bool.{Bool, true}
 use mathlib.Core.Path.{◌≡◌, refl}
 use lib.Dec.{leb, eqb}
 use Rattle.units.specs.Numbers.{pick}
 use Rattle.units.proofs.Steps.{cases, both_left, both_right}
 use Rattle.sheet.specs.declared.Sheet.{Sheet}
-use Rattle.phase.specs.declared.Settled.{Settled}
-use Rattle.phase.specs.declared.Settled.TheVariants.{Stays, Over}
-use Rattle.phase.specs.Ending.{settle_phase}
+use Rattle.std.specs.Prelude.{Some, None}
+use Rattle.phase.specs.Ending.{Settled, settle_phase}
 use Rattle.phase.specs.Times.{one_more}
 use Rattle.phase.specs.Promises as phases
 use Rattle.phase.proofs.Fit.{one_more_fits, none_fits, settle_fits}
 use Rattle.stage.specs.declared.Command.{Command}
-use Rattle.stage.specs.declared.Command.TheVariants.{None}
+use Rattle.stage.specs.declared.Command.TheVariants.{None as NoCommand}
 use Rattle.stage.specs.declared.Lengths.{Lengths}
 use Rattle.stage.specs.declared.Place.{Place}
 use Rattle.stage.specs.declared.Place.TheVariants.{Normal, Train}
@@ -22,16 +21,15 @@ use Rattle.stage.specs.declared.Stage.TheVariants.{TrackGreen, TrackYellow, Trac
 use Rattle.stage.specs.declared.Then.{Then}
 use Rattle.stage.specs.declared.Then.TheVariants.{ToTrack, ToPhase, ToClearance, ToAllRed, ToDwell}
 use Rattle.stage.specs.Commands.{allowed, obeyed}
-use Rattle.stage.specs.Fitness.{then_fits, phase_fits, stage_fits}
+use Rattle.stage.specs.Fitness.{then_fits, stage_fits}
 use Rattle.stage.specs.Listed.{listed, phase_of, NamedAreListed}
 use Rattle.stage.specs.Shown.{in_normal}
-use Rattle.stage.specs.Times.{add_one}
 use Rattle.stage.proofs.Fit.{both_true, phase_told, phase_fits_lem, opened_fits, tick_fits, obeyed_fits}
 use Rattle.flow.specs.declared.Now.{Now}
 use Rattle.flow.specs.Calls.{counting, count_to, count_after, answered, unless_owed, open_dropped, ending_dropped, dropped, begins, called, overdue}
 use Rattle.flow.specs.Settling.{enter, settle_red, settle_yellow, settle_green, settled_as, settle}
-use Rattle.flow.specs.Tick.{after_times, heard, after_command, after_call, end_of, ticked}
-use Rattle.flow.specs.Promises.{Fits, FitsKept}
+use Rattle.flow.specs.Tick.{after_times, heard, after_command, after_call, end_of}
+use Rattle.flow.specs.Promises.{FitsKept}
 
 module _ (t : Lengths) (s : Sheet) where
   abbrev pub Fit : Stage → Type 0
@@ -66,8 +64,8 @@ module _ (t : Lengths) (s : Sheet) where
 
     settled_fits : (p : Place) (n : ℕ) (z : Then) (x : Settled) → then_fits s z ≡ true → listed s n ≡ true → phases.Fits (phase_of s n) x → Fit (settled_as call p n z x)
     unfolding settled_as stage_fits
-    settled_fits p n z (Stays l w) f h e = both_true (then_fits s z) _ f (phase_fits_lem s n l w (record { is_listed = h; light = e.0; walker = e.1 }))
-    settled_fits p n z Over f h e = enter_fits p z f
+    settled_fits p n z (Some (l, w)) f h e = both_true (then_fits s z) _ f (phase_fits_lem s n l w (record { is_listed = h; light = e.0; walker = e.1 }))
+    settled_fits p n z None f h e = enter_fits p z f
 
     pub settle_stage_fits : (st : Stage) → Fit st → Fit (settle t s call st)
     unfolding settle stage_fits
@@ -125,13 +123,13 @@ module _ (t : Lengths) (s : Sheet) where
       (λ _. cases Fit (begins t counted n) (answered st) st (λ _. answered_fits st e) (λ _. e)) (λ _. dropped_fits st e)
 
   -- ---- the command: what it starts is listed
-  none_obeyed : (st : Stage) → Fit st → Fit (obeyed st None)
+  none_obeyed : (st : Stage) → Fit st → Fit (obeyed st NoCommand)
   unfolding obeyed
   none_obeyed st e = e
 
   heard_fits : NamedAreListed s → (st : Stage) (c : Command) → Fit st → Fit (obeyed st (heard s st c))
   unfolding heard
-  heard_fits l st c e = cases (λ (d : Command). Fit (obeyed st d)) (allowed s st c) c None (λ h. obeyed_fits t s l st c h e) (λ h. none_obeyed st e)
+  heard_fits l st c e = cases (λ (d : Command). Fit (obeyed st d)) (allowed s st c) c NoCommand (λ h. obeyed_fits t s l st c h e) (λ h. none_obeyed st e)
 
   -- ---- the three steps
   pub after_times_fits : (call : Bool) (now : Now) → Fit now.stage → Fit (after_times t s call now)

@@ -8,20 +8,16 @@ use Rattle.units.proofs.Steps.{cases}
 use Rattle.sheet.specs.declared.Sheet.{Sheet}
 use Rattle.phase.specs.declared.Light.{Light}
 use Rattle.phase.specs.declared.Walker.{Walker}
-use Rattle.phase.specs.declared.Settled.{Settled}
-use Rattle.phase.specs.declared.Settled.TheVariants.{Stays, Over}
-use Rattle.phase.specs.Ending.{settle_phase}
+use Rattle.std.specs.Prelude.{Some, None}
+use Rattle.phase.specs.Ending.{Settled, settle_phase}
 use Rattle.phase.specs.Times.{add_light, add_walker}
 use Rattle.stage.specs.declared.Command.{Command}
-use Rattle.stage.specs.declared.Command.TheVariants.{None, End}
 use Rattle.stage.specs.declared.Lengths.{Lengths}
-use Rattle.stage.specs.declared.Place.{Place}
 use Rattle.stage.specs.declared.Place.TheVariants.{Normal, Train}
 use Rattle.stage.specs.declared.Stage.{Stage}
 use Rattle.stage.specs.declared.Stage.TheVariants.{TrackGreen, TrackYellow, TrackRed, Open, Ending, ClearanceGreen, AllRed}
-use Rattle.stage.specs.declared.Then.{Then}
 use Rattle.stage.specs.declared.Then.TheVariants.{ToTrack, ToPhase}
-use Rattle.stage.specs.Commands.{allowed_at, allowed, ended, obeyed}
+use Rattle.stage.specs.Commands.{ended}
 use Rattle.stage.specs.Listed.{phase_of}
 use Rattle.stage.specs.Shown.{in_normal, is_normal, normal_before, stays_normal}
 use Rattle.stage.specs.Times.{add_one}
@@ -29,10 +25,10 @@ use Rattle.flow.specs.declared.Now.{Now}
 use Rattle.flow.specs.Calls.{counting, count_after, answered, unless_owed, ending_dropped, dropped, begins, called, overdue}
 use Rattle.flow.specs.Settling.{enter, settled_as, settle}
 use Rattle.flow.specs.Tick.{after_times, after_command, after_call, end_of, ticked}
-use Rattle.flow.specs.Promises.{now, Rests, Leaving, Back, LeavesOnly}
+use Rattle.flow.specs.Promises.{Rests, Leaving, Back, LeavesOnly}
 use Rattle.flow.proofs.Rest.{kept, nothing_due}
 use Rattle.flow.proofs.Steps.{uncounted, on_time, heard_keeps}
-use Rattle.flow.proofs.Transfer.{Firm, unmoved, normal_added}
+use Rattle.flow.proofs.Transfer.{unmoved}
 
 -- ---- the stage of it, by its times
 abbrev pub leave : ℕ → Light → Walker → Stage
@@ -134,14 +130,14 @@ comes_to s n l w = settle_phase (phase_of s n) (add_light (phase_of s n) l) (add
 module _ (t : Lengths) (s : Sheet) (c : Command) (call : Bool) (x : Now) (n : ℕ) (lasts : 0 < t.l51) (some : 0 < t.track_yellow) where
   -- what the phase has come to decides: it goes on ending so, or normal track green is back
   abbrev pub Comes : Settled → Type 0
-  Comes y = ((l : Light) × (w : Walker) × (y ≡ Stays l w) × (end_of t s c call x ≡ leave n l w)) ⊎ Back (ticked t s x c call).now
+  Comes y = ((l : Light) × (w : Walker) × (y ≡ Some (l, w)) × (end_of t s c call x ≡ leave n l w)) ⊎ Back (ticked t s x c call).now
 
   after_first : counting t x ≡ false → (y : Settled) → after_times t s call x ≡ settled_as call Train n ToTrack y → Comes y
   unfolding settled_as enter
-  after_first u (Stays l w) e =
+  after_first u (Some (l, w)) e =
       let r : Rests t s (leave n l w) = subst (Rests t s) e (nothing_due t s call _ lasts) in
       inl (l, w, refl, ap (λ (v : Stage). after_call t s call x (after_command t s c call v)) e ∙ leave_through t s c call x n l w u r)
-  after_first u Over e =
+  after_first u None e =
       let h : Home (end_of t s c call x) =
       subst (λ (v : Stage). Home (after_call t s call x (after_command t s c call v))) (sym e)
       (home_settles t s some call _ (home_called t s some call (counting t x) x.count _ u (green_obeys t s some call c))) in

@@ -1,16 +1,14 @@
 -- Every phase of dwell is named: a phase is started there by a command that is allowed, and by nothing else. Assumes nothing.
 use Prim.Native.Nat.{ℕ}
 use mathlib.Core.Bool.{Bool, true}
-use mathlib.Core.Path.{◌≡◌, refl}
+use mathlib.Core.Path.{◌≡◌}
 use lib.Dec.{leb, eqb}
 use Rattle.units.specs.Numbers.{pick}
 use Rattle.units.proofs.Steps.{cases, split, never}
 use Rattle.sheet.specs.declared.Sheet.{Sheet}
 use Rattle.sheet.specs.Entries.{named}
-use Rattle.phase.specs.declared.Settled.{Settled}
-use Rattle.phase.specs.declared.Settled.TheVariants.{Stays, Over}
-use Rattle.phase.specs.Ending.{settle_phase}
-use Rattle.stage.specs.declared.Command.{Command}
+use Rattle.std.specs.Prelude.{Some, None}
+use Rattle.phase.specs.Ending.{Settled, settle_phase}
 use Rattle.stage.specs.declared.Lengths.{Lengths}
 use Rattle.stage.specs.declared.Place.{Place}
 use Rattle.stage.specs.declared.Place.TheVariants.{Normal, Train}
@@ -22,7 +20,6 @@ use Rattle.stage.specs.Commands.{may_start, allowed_in, allowed_at, home, next, 
 use Rattle.stage.specs.Listed.{phase_of}
 use Rattle.stage.specs.Shown.{in_normal}
 use Rattle.stage.specs.Times.{add_one}
-use Rattle.flow.specs.declared.Now.{Now}
 use Rattle.flow.specs.Calls.{counting, answered, unless_owed, open_dropped, ending_dropped, dropped, begins, called, overdue}
 use Rattle.flow.specs.Settling.{enter, settle_red, settle_yellow, settle_green, settled_as, settle}
 use Rattle.flow.specs.Tick.{after_times, after_command}
@@ -69,9 +66,9 @@ module _ (t : Lengths) (s : Sheet) where
 
     ending : (p : Place) (n : ℕ) (z : Then) (y : Settled) → Here p n → Next p z → Only (settled_as call p n z y)
     unfolding settled_as
-    ending Normal n z (Stays l w) i h = tt
-    ending Train n z (Stays l w) i h = (i, h)
-    ending p n z Over i h = enters p z h
+    ending Normal n z (Some (l, w)) i h = tt
+    ending Train n z (Some (l, w)) i h = (i, h)
+    ending p n z None i h = enters p z h
 
     settles : (st : Stage) → Only st → Only (settle t s call st)
     unfolding settle

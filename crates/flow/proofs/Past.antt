@@ -1,15 +1,14 @@
 -- Past the transfer: while the call stays on, the unit does not come back to normal operation, and unless clearance green is owed or shows it is not
 -- owed again. Assumes nothing.
-use Prim.Native.Nat.{ℕ, ◌<◌}
-use mathlib.Core.Bool.{Bool, true, false}
+use Prim.Native.Nat.{ℕ}
+use mathlib.Core.Bool.{true, false}
 use mathlib.Core.Path.{◌≡◌, refl}
 use lib.Dec.{leb, eqb}
 use Rattle.units.specs.Numbers.{pick}
 use Rattle.units.proofs.Steps.{cases}
 use Rattle.sheet.specs.declared.Sheet.{Sheet}
-use Rattle.phase.specs.declared.Settled.{Settled}
-use Rattle.phase.specs.declared.Settled.TheVariants.{Stays, Over}
-use Rattle.phase.specs.Ending.{settle_phase}
+use Rattle.std.specs.Prelude.{Some, None}
+use Rattle.phase.specs.Ending.{Settled, settle_phase}
 use Rattle.stage.specs.declared.Command.{Command}
 use Rattle.stage.specs.declared.Lengths.{Lengths}
 use Rattle.stage.specs.declared.Place.{Place}
@@ -111,8 +110,8 @@ module _ (Owes : Type 0) where
 
     ending : (p : Place) (n : ℕ) (z : Then) (y : Settled) → PastThen Owes z p → Past Owes (settled_as true p n z y)
     unfolding settled_as
-    ending p n z (Stays l w) h = h
-    ending p n z Over h = entered z p h
+    ending p n z (Some (l, w)) h = h
+    ending p n z None h = entered z p h
 
     settled : (st : Stage) → Past Owes st → Past Owes (settle t s true st)
     unfolding settle

@@ -7,9 +7,8 @@ use borrow.Author.Tests.{leb-false, lt-leb}
 use Rattle.units.specs.Numbers.{pick}
 use Rattle.units.proofs.Steps.{cases}
 use Rattle.sheet.specs.declared.Sheet.{Sheet}
-use Rattle.phase.specs.declared.Settled.{Settled}
-use Rattle.phase.specs.declared.Settled.TheVariants.{Stays, Over}
-use Rattle.phase.specs.Ending.{settle_phase}
+use Rattle.std.specs.Prelude.{Some, None}
+use Rattle.phase.specs.Ending.{Settled, settle_phase}
 use Rattle.phase.specs.Promises as phases
 use Rattle.phase.proofs.Rest as phase_rest
 use Rattle.stage.specs.declared.Lengths.{Lengths}
@@ -51,8 +50,8 @@ module _ (t : Lengths) (s : Sheet) (call : Bool) (lasts : 0 < t.l51) where
 
   settled_rests : (p : Place) (n : ℕ) (z : Then) (x : Settled) → phases.Rests (phase_of s n) x → Rests t s (settled_as call p n z x)
   unfolding settled_as
-  settled_rests p n z (Stays l w) r = r
-  settled_rests p n z Over r = enter_rests p z
+  settled_rests p n z (Some (l, w)) r = r
+  settled_rests p n z None r = enter_rests p z
 
   settle_rests : (st : Stage) → Rests t s (settle t s call st)
   unfolding settle
@@ -76,7 +75,7 @@ module _ (t : Lengths) (s : Sheet) (call : Bool) where
   kept (TrackRed p z k) r = rw (lt-leb t.track_red k r) refl
   kept (Open p n g w) r = refl
   kept (Ending p n z l w) r =
-      settled_kept p n z (Stays l w) (Ending p n z l w) refl (settle_phase (phase_of s n) l w) (phase_rest.kept (phase_of s n) (Stays l w) r)
+      settled_kept p n z (Some (l, w)) (Ending p n z l w) refl (settle_phase (phase_of s n) l w) (phase_rest.kept (phase_of s n) (Some (l, w)) r)
   kept (ClearanceGreen k) r = rw (lt-leb t.l51 k r) refl
   kept AllRed r = refl
 

@@ -8,15 +8,11 @@ use Rattle.units.specs.Numbers.{pick}
 use Rattle.units.proofs.Steps.{cases}
 use Rattle.sheet.specs.declared.Sheet.{Sheet}
 use Rattle.sheet.specs.Entries.{named}
-use Rattle.phase.specs.declared.Light.{Light}
 use Rattle.phase.specs.declared.Light.TheVariants.{Green}
-use Rattle.phase.specs.declared.Walker.{Walker}
 use Rattle.phase.specs.declared.Walker.TheVariants.{Walk}
-use Rattle.phase.specs.declared.Settled.{Settled}
-use Rattle.phase.specs.declared.Settled.TheVariants.{Stays, Over}
-use Rattle.phase.specs.Ending.{settle_phase}
+use Rattle.std.specs.Prelude.{Some, None}
+use Rattle.phase.specs.Ending.{Settled, settle_phase}
 use Rattle.stage.specs.declared.Command.{Command}
-use Rattle.stage.specs.declared.Command.TheVariants.{End}
 use Rattle.stage.specs.declared.Lengths.{Lengths}
 use Rattle.stage.specs.declared.Place.TheVariants.{Normal, Train}
 use Rattle.stage.specs.declared.Stage.{Stage}
@@ -71,8 +67,8 @@ module _ (t : Lengths) (s : Sheet) where
 
     over_or_not : (n : ℕ) (z : Then) (y : Settled) → GoesOn z → InDwell (settled_as call Train n z y)
     unfolding settled_as
-    over_or_not n z (Stays l w) h = h
-    over_or_not n z Over h = entered z h
+    over_or_not n z (Some (l, w)) h = h
+    over_or_not n z None h = entered z h
 
     settled : (st : Stage) → InDwell st → InDwell (settle t s call st)
     unfolding settle
@@ -134,8 +130,8 @@ Left st = (st ≡ TrackGreen) ⊎ ((n : ℕ) × Leaving n st)
 
 asked_leaves : (n : ℕ) (y : Settled) → Left (settled_as false Train n ToTrack y)
 unfolding settled_as enter
-asked_leaves n (Stays l w) = inr (n, (refl, refl, refl))
-asked_leaves n Over = inl refl
+asked_leaves n (Some (l, w)) = inr (n, (refl, refl, refl))
+asked_leaves n None = inl refl
 
 dropped_then : (z : Then) → GoesOn z → unless_owed z ≡ ToTrack
 unfolding unless_owed

@@ -15,7 +15,7 @@ use Rattle.stage.specs.Commands.{allowed_at, allowed, ended, obeyed}
 use Rattle.stage.specs.Shown.{in_normal}
 use Rattle.stage.specs.Times.{add_one}
 use Rattle.flow.specs.declared.Now.{Now}
-use Rattle.flow.specs.Calls.{counting, count_after, answered, dropped, begins, called, overdue}
+use Rattle.flow.specs.Calls.{counting, count_after, dropped, begins, called, overdue}
 use Rattle.flow.specs.Settling.{settle}
 use Rattle.flow.specs.Tick.{heard, after_times, after_command, after_call, end_of, ticked}
 use Rattle.flow.specs.Promises.{now}

@@ -1,18 +1,17 @@
 -- In the transfer nothing moves but the time: no command is taken, the call changes nothing, and what follows is clearance green. Assumes nothing.
 use Prim.Native.Nat.{ℕ, ◌+◌, ◌<◌}
 use mathlib.Core.Bool.{Bool, true, false}
-use mathlib.Core.Logic.{◌⊎◌, inl, inr, ⊎_elim}
+use mathlib.Core.Logic.{◌⊎◌, inl, inr}
 use mathlib.Core.Path.{◌≡◌, refl, sym, ◌∙◌, ap, subst}
 use lib.Dec.{leb, eqb}
 use borrow.Author.Tests.{eq-eqb}
 use Rattle.units.specs.Numbers.{pick}
-use Rattle.units.proofs.Steps.{cases, never}
+use Rattle.units.proofs.Steps.{cases}
 use Rattle.sheet.specs.declared.Sheet.{Sheet}
-use Rattle.phase.specs.declared.Settled.{Settled}
-use Rattle.phase.specs.declared.Settled.TheVariants.{Stays, Over}
-use Rattle.phase.specs.Ending.{settle_phase}
+use Rattle.std.specs.Prelude.{Some, None}
+use Rattle.phase.specs.Ending.{Settled, settle_phase}
 use Rattle.stage.specs.declared.Command.{Command}
-use Rattle.stage.specs.declared.Command.TheVariants.{None, End}
+use Rattle.stage.specs.declared.Command.TheVariants.{None as NoCommand, End}
 use Rattle.stage.specs.declared.Lengths.{Lengths}
 use Rattle.stage.specs.declared.Place.{Place}
 use Rattle.stage.specs.declared.Place.TheVariants.{Normal, Train}
@@ -26,7 +25,7 @@ use Rattle.stage.specs.Shown.{in_normal}
 use Rattle.stage.specs.Times.{add_one}
 use Rattle.flow.specs.declared.Now.{Now}
 use Rattle.flow.specs.Calls.{counting, answered, unless_owed, open_dropped, ending_dropped, dropped, becomes, begins, called, overdue}
-use Rattle.flow.specs.Settling.{enter, settle_red, settle_yellow, settle_green, settled_as, settle}
+use Rattle.flow.specs.Settling.{enter, settle_red, settle_yellow, settled_as, settle}
 use Rattle.flow.specs.Tick.{heard, after_times, after_command, after_call, end_of}
 use Rattle.flow.specs.Promises.{Rests, OwedThen, Owed, TransferBegins, phase_shown, InTransfer, NoNewPhase}
 use Rattle.flow.proofs.Rest.{kept, nothing_due}
@@ -51,12 +50,12 @@ firm_allowed s (Ending p m z l w) n f = refl
 firm_allowed s (ClearanceGreen j) n f = refl
 firm_allowed s AllRed n f = absurd f
 
-unheard : (s : Sheet) (st : Stage) (c : Command) → Firm st → heard s st c ≡ None
+unheard : (s : Sheet) (st : Stage) (c : Command) → Firm st → heard s st c ≡ NoCommand
 unfolding heard allowed pick
-unheard s st None f = refl
+unheard s st NoCommand f = refl
 unheard s st (End n) f = rw (firm_allowed s st n f) refl
 
-obeyed_none : (st : Stage) → obeyed st None ≡ st
+obeyed_none : (st : Stage) → obeyed st NoCommand ≡ st
 unfolding obeyed
 obeyed_none st = refl
 
@@ -142,8 +141,8 @@ module _ (t : Lengths) (s : Sheet) (call : Bool) (lasts : 0 < t.l51) (n : ℕ) w
 
   settled_coming : (p : Place) (m : ℕ) (z : Then) (x : Settled) → z ≡ ToClearance → m ≡ n → Coming n (settled_as call p m z x)
   unfolding settled_as
-  settled_coming p m z (Stays l w) e d = (e, d)
-  settled_coming p m z Over e d = enter_coming p z e
+  settled_coming p m z (Some (l, w)) e d = (e, d)
+  settled_coming p m z None e d = enter_coming p z e
 
   green_coming : (k : ℕ) → k ≡ 0 → Coming n (settle t s call (ClearanceGreen k))
   green_coming k e = subst (Coming n) (sym (kept t s call (ClearanceGreen k) (subst (λ (i : ℕ). i < t.l51) (sym e) lasts))) e

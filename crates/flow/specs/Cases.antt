@@ -10,9 +10,8 @@ use Rattle.phase.specs.declared.Walker.TheVariants.{Walk, Clearance}
 use Rattle.stage.specs.declared.Command.{Command}
 use Rattle.stage.specs.declared.Command.TheVariants.{None, End}
 use Rattle.stage.specs.declared.Lengths.{Lengths}
-use Rattle.stage.specs.declared.Place.TheVariants.{Normal, Train}
-use Rattle.stage.specs.declared.Stage.{Stage}
-use Rattle.stage.specs.declared.Stage.TheVariants.{TrackGreen, TrackRed, Open, Ending, AllRed}
+use Rattle.stage.specs.declared.Place.TheVariants.{Train}
+use Rattle.stage.specs.declared.Stage.TheVariants.{TrackGreen, Open, Ending, AllRed}
 use Rattle.stage.specs.declared.Then.TheVariants.{ToTrack, ToPhase, ToAllRed}
 use Rattle.flow.specs.declared.Now.{Now}
 use Rattle.flow.specs.Promises.{now}

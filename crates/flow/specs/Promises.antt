@@ -1,8 +1,7 @@
 -- What is promised of a tick on the stage.
-use Rattle.std.specs.Prelude.{ℕ, ◌+◌, ◌≤◌, ◌<◌, Bool, true, false, ◌⊎◌, ◌≡◌, leb}
+use Rattle.std.specs.Prelude.{ℕ, ◌+◌, ◌<◌, Bool, true, false, ◌⊎◌, ◌≡◌, leb, Some}
 use Rattle.sheet.specs.declared.Sheet.{Sheet}
 use Rattle.sheet.specs.Entries.{named}
-use Rattle.phase.specs.declared.Settled.TheVariants.{Stays}
 use Rattle.phase.specs.Promises as phases
 use Rattle.stage.specs.declared.Command.{Command}
 use Rattle.stage.specs.declared.Command.TheVariants.{None, End}
@@ -38,7 +37,7 @@ Rests t s TrackGreen = Unit {0}
 Rests t s (TrackYellow p z k) = k < t.track_yellow
 Rests t s (TrackRed p z k) = k < t.track_red
 Rests t s (Open p n g w) = Unit {0}
-Rests t s (Ending p n z l w) = phases.Rests (phase_of s n) (Stays l w)
+Rests t s (Ending p n z l w) = phases.Rests (phase_of s n) (Some (l, w))
 Rests t s (ClearanceGreen k) = k < t.l51
 Rests t s AllRed = Unit {0}
 

@@ -1,17 +1,15 @@
 -- "Stage changes then due are made at once .., intervals of length 0 included": what follows a stage where its change is due, just entered, else
 -- the stage as it is. Line 51 is above 0 on every accepted sheet, so clearance green just entered is not over. `call` is the call on this tick.
-use Rattle.std.specs.Prelude.{ℕ, Bool}
+use Rattle.std.specs.Prelude.{ℕ, Bool, Some, None}
 use Rattle.units.specs.Numbers.{pick}
 use Rattle.sheet.specs.declared.Sheet.{Sheet}
 use Rattle.phase.specs.declared.Light.{Light}
 use Rattle.phase.specs.declared.Walker.{Walker}
-use Rattle.phase.specs.declared.Settled.{Settled}
-use Rattle.phase.specs.declared.Settled.TheVariants.{Stays, Over}
 use Rattle.phase.specs.Times.{served}
-use Rattle.phase.specs.Ending.{settle_phase}
+use Rattle.phase.specs.Ending.{Settled, settle_phase}
 use Rattle.stage.specs.declared.Lengths.{Lengths}
 use Rattle.stage.specs.declared.Place.{Place}
-use Rattle.stage.specs.declared.Place.TheVariants.{Normal, Train}
+use Rattle.stage.specs.declared.Place.TheVariants.{Train}
 use Rattle.stage.specs.declared.Stage.{Stage}
 use Rattle.stage.specs.declared.Stage.TheVariants.{TrackGreen, TrackYellow, TrackRed, Open, Ending, ClearanceGreen, AllRed}
 use Rattle.stage.specs.declared.Then.{Then}
@@ -39,8 +37,8 @@ settle_green t call k = pick (served t.l51 k) (settle_yellow t call Train ToDwel
 
 -- a phase that was asked to end
 unfoldable pub settled_as : Bool → Place → ℕ → Then → Settled → Stage
-settled_as call p n z (Stays l w) = Ending p n z l w
-settled_as call p n z Over = enter call p z
+settled_as call p n z (Some (l, w)) = Ending p n z l w
+settled_as call p n z None = enter call p z
 
 abbrev pub settle_ending : Sheet → Bool → Place → ℕ → Then → Light → Walker → Stage
 settle_ending s call p n z l w = settled_as call p n z (settle_phase (phase_of s n) l w)

@@ -10,7 +10,7 @@ pub struct Now {
     pub count: u64,
 }
 
-// One tick later, and whether the command was allowed.
+// One tick later, and whether the command was allowed. Not a Result: where it was not, the tick passed as with none, by `ticked`.
 #[derive(Clone, Copy)]
 pub struct Ticked {
     pub now: Now,

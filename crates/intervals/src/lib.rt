@@ -8,6 +8,7 @@ ghost use Rattle.phase.specs.Times.{one_more, green_time};
 use sheet::Phase;
 
 // A time one tick later: it stops at its interval's length.
+#[tactic(auto, unfolding(units::specs::Numbers::pick, phase::specs::Times::one_more))]
 pub fn one_more(spent: u64, length: u64) -> u64
     ensures { result ≡ one_more spent length }
 {
@@ -15,6 +16,7 @@ pub fn one_more(spent: u64, length: u64) -> u64
 }
 
 // The call's count one tick later: one more where the call is on, up to the most; off sets it back.
+#[tactic(auto, unfolding(units::specs::Numbers::pick))]
 pub fn count_on(call: bool, count: u64, most: u64) -> u64
     ensures { result ≡ pick call (one_more count most) 0 }
 {
@@ -25,5 +27,5 @@ pub fn count_on(call: bool, count: u64, most: u64) -> u64
 pub fn green_time(p: Phase) -> u64
     ensures { result ≡ green_time p }
 {
-    p.green as u64 + p.other as u64
+    u64::from(p.green) + u64::from(p.other)
 }

@@ -1,2 +1,2 @@
-mod Along
+pub mod Along
 pub mod Fixed

@@ -11,10 +11,9 @@ use Rattle.phase.specs.declared.Light.{Light}
 use Rattle.phase.specs.declared.Light.TheVariants.{Green, Yellow, Red}
 use Rattle.phase.specs.declared.Walker.{Walker}
 use Rattle.phase.specs.declared.Walker.TheVariants.{Walk, Clearance}
-use Rattle.phase.specs.declared.Settled.{Settled}
-use Rattle.phase.specs.declared.Settled.TheVariants.{Stays, Over}
+use Rattle.std.specs.Prelude.{Some, None}
 use Rattle.phase.specs.Times.{one_more, green_time, add_light, add_walker, light_fits, walker_fits}
-use Rattle.phase.specs.Ending.{after_walk, green_over, after_green, after_yellow, over_or_stays, settle_phase}
+use Rattle.phase.specs.Ending.{Settled, after_walk, green_over, after_green, after_yellow, over_or_stays, settle_phase}
 use Rattle.phase.specs.Promises.{Fits, FitsKept, tick}
 
 -- a time that fits, one tick later
@@ -65,14 +64,14 @@ module _ (p : Phase) where
   pub settle_fits : (l : Light) (w : Walker) → LightFits l → WalkerFits w → Fits p (settle_phase p l w)
   unfolding over_or_stays
   settle_fits l w h i =
-      cases (Fits p) _ Over (Stays (after_yellow p (after_green p (after_walk p w) l)) (after_walk p w))
+      cases (Fits p) _ None (Some (after_yellow p (after_green p (after_walk p w) l), after_walk p w))
       (λ e. tt)
       (λ e. (yellow_fits _ (green_fits (after_walk p w) l h), walk_fits w i))
 
   tick_fits : (x : Settled) → Fits p x → Fits p (tick p x)
   unfolding tick
-  tick_fits (Stays l w) h = settle_fits (add_light p l) (add_walker p w) (add_light_fits l h.0) (add_walker_fits w h.1)
-  tick_fits Over h = tt
+  tick_fits (Some (l, w)) h = settle_fits (add_light p l) (add_walker p w) (add_light_fits l h.0) (add_walker_fits w h.1)
+  tick_fits None h = tt
 
 pub fits_kept : FitsKept
 fits_kept p = (settle_fits p, tick_fits p)

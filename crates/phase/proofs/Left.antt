@@ -16,10 +16,9 @@ use Rattle.phase.specs.declared.Light.{Light}
 use Rattle.phase.specs.declared.Light.TheVariants.{Green, Yellow, Red}
 use Rattle.phase.specs.declared.Walker.{Walker}
 use Rattle.phase.specs.declared.Walker.TheVariants.{Walk, Clearance}
-use Rattle.phase.specs.declared.Settled.{Settled}
-use Rattle.phase.specs.declared.Settled.TheVariants.{Stays, Over}
+use Rattle.std.specs.Prelude.{Some, None}
 use Rattle.phase.specs.Times.{one_more, green_time, add_light, add_walker, light_fits, walker_fits}
-use Rattle.phase.specs.Ending.{after_walk, walk_over, clearance_over, green_over, after_green, after_yellow, phase_over, over_or_stays, settle_phase}
+use Rattle.phase.specs.Ending.{Settled, after_walk, walk_over, clearance_over, green_over, after_green, after_yellow, phase_over, over_or_stays, settle_phase}
 use Rattle.phase.specs.Promises.{WalkerRests, Rests, Fits, tick, ticks, Fair, OverInTime, ModeOne, ModeTwo}
 use Rattle.phase.proofs.Fit.{settle_fits, add_light_fits, add_walker_fits}
 use Rattle.phase.proofs.Rest.{nothing_due}
@@ -60,8 +59,8 @@ module _ (p : Phase) where
   Ends k (Red i) w = (p.red ≤ i + k) × Clears k w
 
   abbrev EndsIn : ℕ → Settled → Type 0
-  EndsIn k (Stays l w) = Ends k l w
-  EndsIn k Over = Unit {0}
+  EndsIn k (Some (l, w)) = Ends k l w
+  EndsIn k None = Unit {0}
 
   -- over, or at most so many ticks from it
   pub record Left (k : ℕ) (x : Settled) : Type 0 where
@@ -70,7 +69,7 @@ module _ (p : Phase) where
     pub ends : EndsIn k x
 
   -- ---- one more tick of the times
-  green_room : (k i : ℕ) (w : Walker) → Rests p (Stays (Green i) w) → Ends (suc k) (Green i) w → p.yellow + p.red ≤ k
+  green_room : (k i : ℕ) (w : Walker) → Rests p (Some (Green i, w)) → Ends (suc k) (Green i) w → p.yellow + p.red ≤ k
   green_room k i w (inl h, q) e = omega (arith, e.0)
   green_room k i (Walk j) (inr (inl r), q) e = omega (arith, e.1)
   green_room k i (Clearance j) (inr (inl r), q) e = absurd r
@@ -95,7 +94,7 @@ module _ (p : Phase) where
       by (one n z) = omega (arith, z (p.clearance + p.yellow + p.red))
       by (other n z) = omega (arith, z (p.clearance + p.yellow + p.red))
 
-  add_ends : (k : ℕ) (l : Light) (w : Walker) → Fits p (Stays l w) → Rests p (Stays l w) → Ends (suc k) l w → Ends k (add_light p l) (add_walker p w)
+  add_ends : (k : ℕ) (l : Light) (w : Walker) → Fits p (Some (l, w)) → Rests p (Some (l, w)) → Ends (suc k) l w → Ends k (add_light p l) (add_walker p w)
   unfolding light_fits add_light
   add_ends k (Green i) w f r e =
       let room = green_room k i w r e in
@@ -141,7 +140,7 @@ module _ (p : Phase) where
   settle_ends : (k : ℕ) (l : Light) (w : Walker) → light_fits p l ≡ true → walker_fits p w ≡ true → Ends k l w → EndsIn k (settle_phase p l w)
   unfolding over_or_stays
   settle_ends k l w f g e =
-      cases (EndsIn k) _ Over (Stays (after_yellow p (after_green p (after_walk p w) l)) (after_walk p w))
+      cases (EndsIn k) _ None (Some (after_yellow p (after_green p (after_walk p w) l), after_walk p w))
       (λ t. tt)
       (λ t. light_ends k (after_walk p w) l f (after_walk_ends k l w g e))
 
@@ -151,13 +150,13 @@ module _ (p : Phase) where
   -- ---- a tick takes one off
   pub tick_left : (k : ℕ) (x : Settled) → Left (suc k) x → Left k (tick p x)
   unfolding tick
-  tick_left k (Stays l w) h =
+  tick_left k (Some (l, w)) h =
       settle_left k (add_light p l) (add_walker p w) (add_light_fits p l h.fits.0) (add_walker_fits p w h.fits.1)
       (add_ends k l w h.fits h.rests h.ends)
-  tick_left k Over h = record { fits = tt; rests = tt; ends = tt }
+  tick_left k None h = record { fits = tt; rests = tt; ends = tt }
 
   -- with none left it is over
-  rested : (l : Light) (w : Walker) → Rests p (Stays l w) → Ends 0 l w → ⊥
+  rested : (l : Light) (w : Walker) → Rests p (Some (l, w)) → Ends 0 l w → ⊥
   rested (Green i) w (inl h, q) e = omega (arith, e.0)
   rested (Green i) (Walk j) (inr h, q) e = omega (arith, e.1)
   rested (Green i) (Clearance j) (inr (inl h), q) e = h
@@ -167,11 +166,11 @@ module _ (p : Phase) where
   rested (Red i) (Walk j) (inr h, q) e = omega (arith, e.1)
   rested (Red i) (Clearance j) (inr h, q) e = omega (arith, e.1)
 
-  pub left_none : (x : Settled) → Left 0 x → x ≡ Over
-  left_none (Stays l w) h = absurd (rested l w h.rests h.ends)
-  left_none Over h = refl
+  pub left_none : (x : Settled) → Left 0 x → x ≡ None
+  left_none (Some (l, w)) h = absurd (rested l w h.rests h.ends)
+  left_none None h = refl
 
-  over_within : (k : ℕ) (x : Settled) → Left k x → ticks p k x ≡ Over
+  over_within : (k : ℕ) (x : Settled) → Left k x → ticks p k x ≡ None
   unfolding ticks
   over_within zero x h = left_none x h
   over_within (suc k) x h = over_within k (tick p x) (tick_left k x h)

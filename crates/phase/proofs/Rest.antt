@@ -12,10 +12,9 @@ use Rattle.phase.specs.declared.Light.{Light}
 use Rattle.phase.specs.declared.Light.TheVariants.{Green, Yellow, Red}
 use Rattle.phase.specs.declared.Walker.{Walker}
 use Rattle.phase.specs.declared.Walker.TheVariants.{Walk, Clearance}
-use Rattle.phase.specs.declared.Settled.{Settled}
-use Rattle.phase.specs.declared.Settled.TheVariants.{Stays, Over}
+use Rattle.std.specs.Prelude.{Some, None}
 use Rattle.phase.specs.Times.{green_time}
-use Rattle.phase.specs.Ending.{after_walk, walk_over, clearance_over, green_over, after_green, after_yellow, phase_over, over_or_stays, settle_phase}
+use Rattle.phase.specs.Ending.{Settled, after_walk, walk_over, clearance_over, green_over, after_green, after_yellow, phase_over, over_or_stays, settle_phase}
 use Rattle.phase.specs.Promises.{WalkRuns, ClearanceRuns, GreenRuns, GreenWaits, RedWaits, WalkerRests, LightRests, Rests, NothingDue, again, TwiceIsOnce}
 
 module _ (p : Phase) where
@@ -39,14 +38,14 @@ module _ (p : Phase) where
       (cases (λ (b : Bool). b ≡ false) (leb (green_time p) k) (pick (walk_over w) false false) false
       (λ e. cases (λ (b : Bool). b ≡ false) (walk_over w) false false (λ f. refl) (λ f. refl)) (λ e. refl))
 
-  pub green_waits : (k : ℕ) (w : Walker) → GreenRuns p (after_walk p w) k → settle_phase p (Green k) w ≡ Stays (Green k) (after_walk p w)
+  pub green_waits : (k : ℕ) (w : Walker) → GreenRuns p (after_walk p w) k → settle_phase p (Green k) w ≡ Some (Green k, after_walk p w)
   unfolding over_or_stays after_yellow after_green phase_over pick
   green_waits k w r = rw (green_runs k (after_walk p w) r) refl
 
-  pub red_waits : (k : ℕ) (w : Walker) → ((k < p.red) ⊎ ClearanceRuns p (after_walk p w)) → settle_phase p (Red k) w ≡ Stays (Red k) (after_walk p w)
+  pub red_waits : (k : ℕ) (w : Walker) → ((k < p.red) ⊎ ClearanceRuns p (after_walk p w)) → settle_phase p (Red k) w ≡ Some (Red k, after_walk p w)
   unfolding over_or_stays after_yellow after_green phase_over pick
   red_waits k w (inl h) = rw (lt-leb p.red k h) refl
-  red_waits k w (inr r) = rw (not_cleared (after_walk p w) r) (cases (λ (b : Bool). pick b Over (Stays (Red k) (after_walk p w)) ≡ Stays (Red k) (after_walk p w)) (leb p.red k) false false (λ e. refl) (λ e. refl))
+  red_waits k w (inr r) = rw (not_cleared (after_walk p w) r) (cases (λ (b : Bool). pick {A = Settled} b None (Some (Red k, after_walk p w)) ≡ Some (Red k, after_walk p w)) (leb p.red k) false false (λ e. refl) (λ e. refl))
 
   -- ---- nothing left due
   still_green : (k : ℕ) (w : Walker) → green_over p w k ≡ false → GreenRuns p w k
@@ -88,7 +87,7 @@ module _ (p : Phase) where
   pub nothing_due : (l : Light) (w : Walker) → Rests p (settle_phase p l w)
   unfolding over_or_stays
   nothing_due l w =
-      cases (Rests p) _ Over (Stays (after_yellow p (after_green p (after_walk p w) l)) (after_walk p w))
+      cases (Rests p) _ None (Some (after_yellow p (after_green p (after_walk p w) l), after_walk p w))
       (λ e. tt)
       (λ e. (light_rests (after_walk p w) l e, walk_rests w))
 
@@ -98,19 +97,19 @@ module _ (p : Phase) where
   walk_kept (Walk k) r = rw (lt-leb p.walk k r) refl
   walk_kept (Clearance k) r = refl
 
-  yellow_waits : (k : ℕ) (w : Walker) → k < p.yellow → settle_phase p (Yellow k) w ≡ Stays (Yellow k) (after_walk p w)
+  yellow_waits : (k : ℕ) (w : Walker) → k < p.yellow → settle_phase p (Yellow k) w ≡ Some (Yellow k, after_walk p w)
   unfolding over_or_stays after_yellow after_green phase_over pick
   yellow_waits k w h = rw (lt-leb p.yellow k h) refl
 
   pub kept : (x : Settled) → Rests p x → again p x ≡ x
-  kept (Stays (Green k) w) r =
+  kept (Some (Green k, w)) r =
       let e = walk_kept w r.1 in
       green_waits k w (rw e r.0) ∙ rw e
-  kept (Stays (Yellow k) w) r = yellow_waits k w r.0 ∙ rw (walk_kept w r.1)
-  kept (Stays (Red k) w) r =
+  kept (Some (Yellow k, w)) r = yellow_waits k w r.0 ∙ rw (walk_kept w r.1)
+  kept (Some (Red k, w)) r =
       let e = walk_kept w r.1 in
       red_waits k w (rw e r.0) ∙ rw e
-  kept Over r = refl
+  kept None r = refl
 
 pub green_waits_all : GreenWaits
 green_waits_all = green_waits

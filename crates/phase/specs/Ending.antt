@@ -1,15 +1,13 @@
 -- "After it is asked: walk ends once served; clearance then runs its length; green ends when green + other is served, walk is over,
 -- and in mode 1 clearance is over; yellow and red follow. The phase is over when red and clearance both are. In mode 0 there is no walk
 -- or clearance": there both lengths are 0, by refusal 5.
-use Rattle.std.specs.Prelude.{ℕ, Bool, true, false, eqb}
+use Rattle.std.specs.Prelude.{ℕ, Bool, true, false, eqb, Option, Some, None}
 use Rattle.units.specs.Numbers.{pick, both}
 use Rattle.sheet.specs.declared.Phase.{Phase}
 use Rattle.phase.specs.declared.Light.{Light}
 use Rattle.phase.specs.declared.Light.TheVariants.{Green, Yellow, Red}
 use Rattle.phase.specs.declared.Walker.{Walker}
 use Rattle.phase.specs.declared.Walker.TheVariants.{Walk, Clearance}
-use Rattle.phase.specs.declared.Settled.{Settled}
-use Rattle.phase.specs.declared.Settled.TheVariants.{Stays, Over}
 use Rattle.phase.specs.Times.{served, green_time}
 
 -- "walk ends once served; clearance then runs its length"
@@ -46,8 +44,12 @@ phase_over p (Green k) w = false
 phase_over p (Yellow k) w = false
 phase_over p (Red k) w = both (served p.red k) (clearance_over p w)
 
+-- what it comes to once every change due is made: light and walker as they are then; or nothing, where it is over
+abbrev pub Settled : Type 0
+Settled = Option (Light × Walker)
+
 unfoldable pub over_or_stays : Phase → Light → Walker → Settled
-over_or_stays p l w = pick (phase_over p l w) Over (Stays l w)
+over_or_stays p l w = pick (phase_over p l w) None (Some (l, w))
 
 -- every change due, in the order of flow
 abbrev pub settle_phase : Phase → Light → Walker → Settled

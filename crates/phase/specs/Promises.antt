@@ -1,5 +1,5 @@
 -- What is promised of a phase that was asked to end: it waits for what the paper says and for nothing else, and it is over in time.
-use Rattle.std.specs.Prelude.{ℕ, zero, suc, ◌+◌, ◌≤◌, ◌<◌, true, ◌⊎◌, ◌≡◌}
+use Rattle.std.specs.Prelude.{ℕ, zero, suc, ◌+◌, ◌≤◌, ◌<◌, true, ◌⊎◌, ◌≡◌, Some, None}
 use Rattle.sheet.specs.declared.Phase.{Phase}
 use Rattle.transfer.specs.declared.Users.TheVariants.{Vehicles, Pedestrians}
 use Rattle.transfer.specs.Transfer.{time_of}
@@ -7,10 +7,8 @@ use Rattle.phase.specs.declared.Light.{Light}
 use Rattle.phase.specs.declared.Light.TheVariants.{Green, Yellow, Red}
 use Rattle.phase.specs.declared.Walker.{Walker}
 use Rattle.phase.specs.declared.Walker.TheVariants.{Walk, Clearance}
-use Rattle.phase.specs.declared.Settled.{Settled}
-use Rattle.phase.specs.declared.Settled.TheVariants.{Stays, Over}
 use Rattle.phase.specs.Times.{green_time, add_light, add_walker, light_fits, walker_fits}
-use Rattle.phase.specs.Ending.{after_walk, settle_phase}
+use Rattle.phase.specs.Ending.{Settled, after_walk, settle_phase}
 
 -- ---- what is waited for
 -- walk is not over
@@ -29,11 +27,11 @@ GreenRuns p w k = (k < green_time p) ⊎ (WalkRuns w ⊎ ((p.mode ≡ 1) × Clea
 
 -- green is shown as long as it has something to wait for, in mode 2 also for walk
 abbrev pub GreenWaits : Type 0
-GreenWaits = (p : Phase) (k : ℕ) (w : Walker) → GreenRuns p (after_walk p w) k → settle_phase p (Green k) w ≡ Stays (Green k) (after_walk p w)
+GreenWaits = (p : Phase) (k : ℕ) (w : Walker) → GreenRuns p (after_walk p w) k → settle_phase p (Green k) w ≡ Some (Green k, after_walk p w)
 
 -- "The phase is over when red and clearance both are": not before
 abbrev pub RedWaits : Type 0
-RedWaits = (p : Phase) (k : ℕ) (w : Walker) → (k < p.red) ⊎ ClearanceRuns p (after_walk p w) → settle_phase p (Red k) w ≡ Stays (Red k) (after_walk p w)
+RedWaits = (p : Phase) (k : ℕ) (w : Walker) → (k < p.red) ⊎ ClearanceRuns p (after_walk p w) → settle_phase p (Red k) w ≡ Some (Red k, after_walk p w)
 
 -- ---- no change is left due
 abbrev pub WalkerRests : Phase → Walker → Type 0
@@ -46,29 +44,29 @@ LightRests p (Yellow k) w = k < p.yellow
 LightRests p (Red k) w = (k < p.red) ⊎ ClearanceRuns p w
 
 abbrev pub Rests : Phase → Settled → Type 0
-Rests p (Stays l w) = LightRests p l w × WalkerRests p w
-Rests p Over = Unit {0}
+Rests p (Some (l, w)) = LightRests p l w × WalkerRests p w
+Rests p None = Unit {0}
 
 abbrev pub NothingDue : Type 0
 NothingDue = (p : Phase) (l : Light) (w : Walker) → Rests p (settle_phase p l w)
 
 -- settling what is settled
 abbrev pub again : Phase → Settled → Settled
-again p (Stays l w) = settle_phase p l w
-again p Over = Over
+again p (Some (l, w)) = settle_phase p l w
+again p None = None
 
 abbrev pub TwiceIsOnce : Type 0
 TwiceIsOnce = (p : Phase) (l : Light) (w : Walker) → again p (settle_phase p l w) ≡ settle_phase p l w
 
 -- ---- no time comes above its length
 abbrev pub Fits : Phase → Settled → Type 0
-Fits p (Stays l w) = (light_fits p l ≡ true) × (walker_fits p w ≡ true)
-Fits p Over = Unit {0}
+Fits p (Some (l, w)) = (light_fits p l ≡ true) × (walker_fits p w ≡ true)
+Fits p None = Unit {0}
 
 -- one tick of the phase: one is added to the times running, and the changes due are made
 unfoldable pub tick : Phase → Settled → Settled
-tick p (Stays l w) = settle_phase p (add_light p l) (add_walker p w)
-tick p Over = Over
+tick p (Some (l, w)) = settle_phase p (add_light p l) (add_walker p w)
+tick p None = None
 
 abbrev pub FitsKept : Type 0
 FitsKept =
@@ -91,7 +89,7 @@ pub record Fair (p : Phase) : Type 0 where
 abbrev pub OverInTime : Type 0
 OverInTime =
     (p : Phase) → Fair p → (n : ℕ) → (time_of Vehicles p).0 ≤ n → (time_of Pedestrians p).0 ≤ n
-    → (l : Light) (w : Walker) → light_fits p l ≡ true → walker_fits p w ≡ true → ticks p n (settle_phase p l w) ≡ Over
+    → (l : Light) (w : Walker) → light_fits p l ≡ true → walker_fits p w ≡ true → ticks p n (settle_phase p l w) ≡ None
 
 -- ---- phase 4 of the paper's sheet, tick by tick, asked to end as it begins; and the same phase in another mode
 abbrev pub four : ℕ → Phase
@@ -103,11 +101,11 @@ four_after mode n = ticks (four mode) n (settle_phase (four mode) (Green 0) (Wal
 -- in mode 1, with a pedestrian time of 225 on line 15: yellow waits for the clearance, and the phase is over with tick 225 and not before
 abbrev pub ModeOne : Type 0
 ModeOne =
-    (four_after 1 70 ≡ Stays (Green 40) (Clearance 0)) × (four_after 1 169 ≡ Stays (Green 40) (Clearance 99))
-    × (four_after 1 170 ≡ Stays (Yellow 0) (Clearance 100)) × (four_after 1 224 ≡ Stays (Red 19) (Clearance 100)) × (four_after 1 225 ≡ Over)
+    (four_after 1 70 ≡ Some (Green 40, Clearance 0)) × (four_after 1 169 ≡ Some (Green 40, Clearance 99))
+    × (four_after 1 170 ≡ Some (Yellow 0, Clearance 100)) × (four_after 1 224 ≡ Some (Red 19, Clearance 100)) × (four_after 1 225 ≡ None)
 
 -- in mode 2: yellow waits for walk, clearance runs on through yellow and red, and red for the clearance
 abbrev pub ModeTwo : Type 0
 ModeTwo =
-    (four_after 2 69 ≡ Stays (Green 40) (Walk 69)) × (four_after 2 70 ≡ Stays (Yellow 0) (Clearance 0))
-    × (four_after 2 169 ≡ Stays (Red 20) (Clearance 99)) × (four_after 2 170 ≡ Over)
+    (four_after 2 69 ≡ Some (Green 40, Walk 69)) × (four_after 2 70 ≡ Some (Yellow 0, Clearance 0))
+    × (four_after 2 169 ≡ Some (Red 20, Clearance 99)) × (four_after 2 170 ≡ None)

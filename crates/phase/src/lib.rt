@@ -17,9 +17,5 @@ pub enum Walker {
     Clearance(u64),
 }
 
-// What the phase comes to once every change due is made.
-#[derive(Clone, Copy)]
-pub enum Settled {
-    Stays(Light, Walker),
-    Over,
-}
+// What the phase comes to once every change due is made: its light and its walker, or nothing, where it is over.
+pub type Settled = Option<(Light, Walker)>;

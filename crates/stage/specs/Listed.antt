@@ -1,35 +1,20 @@
 -- The phases listed: "phases | 1 to 8, then that many `phase=` lines". "Array entries past a count are no part of a sheet".
-use Rattle.std.specs.Prelude.{ℕ, Bool, true, false, List, [], ◌∷◌, ◌≡◌, eqb, take}
-use Rattle.units.specs.Numbers.{pick}
+use Rattle.std.specs.Prelude.{ℕ, Bool, true, List, ◌≡◌, ◌==◌, Option, find, is_some, unwrap_or}
 use Rattle.sheet.specs.declared.Phase.{Phase}
 use Rattle.sheet.specs.declared.Sheet.{Sheet}
-use Rattle.sheet.specs.Entries.{named}
+use Rattle.sheet.specs.Entries.{listed_phases, named}
 use Rattle.sheet.specs.Zero.{zero_phase}
-use Rattle.stage.specs.declared.Found.{Found}
-use Rattle.stage.specs.declared.Found.TheVariants.{At, Missing}
 
-abbrev pub listing : Sheet → List Phase
-listing s = take s.phase_count s.phases
-
-unfoldable pub find_in : List Phase → ℕ → Found
-find_in [] n = Missing
-find_in (p ∷ ps) n = pick (eqb p.number n) (At p) (find_in ps n)
-
-unfoldable pub is_at : Found → Bool
-is_at (At p) = true
-is_at Missing = false
-
-unfoldable pub or_zero : Found → Phase
-or_zero (At p) = p
-or_zero Missing = zero_phase
+unfoldable pub find_in : List Phase → ℕ → Option Phase
+find_in ps n = find (λ p. p.number == n) ps
 
 -- a phase of that number is listed
 abbrev pub listed : Sheet → ℕ → Bool
-listed s n = is_at (find_in (listing s) n)
+listed s n = is_some (find_in (listed_phases s) n)
 
 -- it; the phase of zeros where none is, which no stage that fits shows
 abbrev pub phase_of : Sheet → ℕ → Phase
-phase_of s n = or_zero (find_in (listing s) n)
+phase_of s n = unwrap_or (find_in (listed_phases s) n) zero_phase
 
 -- "12, a dwell phase not listed on the sheet": what a sheet names for dwell is listed on it, as it is on every sheet that is accepted
 abbrev pub NamedAreListed : Sheet → Type 0

@@ -3,7 +3,6 @@
 #![tactic(auto)]
 
 use phase::{Light, Walker};
-use sheet::Phase;
 
 // Normal operation; or a train's, from track clearance green to the end of dwell.
 #[derive(Clone, Copy)]
@@ -59,24 +58,20 @@ pub enum Stage {
     AllRed,
 }
 
-// None, or end with the number that is next; 0 is the track, and in dwell all red.
+// None, or end with the number that is next; 0 is the track, and in dwell all red. It has the shape of an Option, which would be no plainer: these are
+// the paper's two commands, and `End(4)` says what `Some(4)` does not.
 #[derive(Clone, Copy)]
 pub enum Command {
     None,
     End(u32),
 }
 
-// What the sequence goes by, in ticks: how long the call must be seen on, how long track clearance green lasts, and the track's yellow and red.
+// What the sequence goes by, in ticks: how long the call must be seen on, how long track clearance green lasts, and the track's yellow and red. They go
+// beside the sheet, and not with it in one struct, which would be no plainer: the laws of a tick hold for any lengths on any sheet, and say so.
 #[derive(Clone, Copy)]
 pub struct Lengths {
     pub l03: u64,
     pub l51: u64,
     pub track_yellow: u64,
     pub track_red: u64,
-}
-
-#[derive(Clone, Copy)]
-pub enum Found {
-    At(Phase),
-    Missing,
 }
