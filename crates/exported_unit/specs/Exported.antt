@@ -2,6 +2,7 @@
 use Rattle.std.specs.Prelude.{ℕ, zero, suc, ◌-◌, Bool, List, [], ◌∷◌, eqb, get_or, replicate}
 use Rattle.units.specs.Numbers.{pick}
 use Rattle.numbers.specs.Flat.{sheet_of}
+use Rattle.sheet.specs.Refusals.{Answer}
 use Rattle.stage.specs.declared.Command.{Command}
 use Rattle.stage.specs.declared.Command.TheVariants.{None, End}
 use Rattle.flow.specs.declared.Now.{Now}
@@ -11,9 +12,6 @@ use Rattle.unit.specs.declared.Unit.{Unit}
 use Rattle.unit.specs.declared.Reply.{Reply}
 use Rattle.unit.specs.Unit.{now_of}
 use Rattle.unit.specs.Runs.{Event, tick, load, answer_to, run}
-use Rattle.running.specs.declared.Answered.{Answered}
-use Rattle.running.specs.declared.Running.{Running}
-use Rattle.running.specs.Running as running
 use Rattle.exported_unit.specs.declared.Told.{Told}
 
 -- ---- a unit as numbers: those of its sheet; those of its stage, without the times; and the times, those spent and the count
@@ -67,10 +65,10 @@ ticks_from sheet v t offered n call more = event_from (unit_of sheet v t) n offe
 abbrev pub told_by : Reply → Told
 told_by k = record { answer = k.answer; now = now_of k.unit }
 
--- the same of a running unit: so many ticks more
-unfoldable pub ran_on : Running → Bool → ℕ → Running
-ran_on r call zero = r
-ran_on r call (suc n) = ran_on (running.tick_of r None call).running call n
+-- the same of whatever takes events: by what it is after one, what it answers, and what it shows
+unfoldable pub goes_on : {X : Type 0} → (X → Event → X) → Bool → ℕ → X → X
+goes_on after call zero x = x
+goes_on after call (suc n) x = goes_on after call n (after x (tick None call))
 
-abbrev pub more_runs : Answered → Bool → ℕ → Told
-more_runs first call more = record { answer = first.answer; now = (ran_on first.running call more).now }
+abbrev pub told_of : {X : Type 0} → (X → Event → X) → (X → Now) → X × Answer → Bool → ℕ → Told
+told_of after shows first call more = record { answer = first.1; now = shows (goes_on after call more first.0) }

@@ -3,29 +3,95 @@
 #![tactic(auto)]
 
 ghost use Rattle.std.specs.Prelude.{◌≡◌};
-ghost use Rattle.sheet.specs.Refusals.{code_of};
+ghost use Rattle.sheet.specs.Refusals.{Answer, code_of};
+ghost use Rattle.flow.specs.declared.Now.{Now};
 ghost use Rattle.unit.specs.Unit.{now_of};
-ghost use Rattle.unit.specs.Runs.{answer_to};
+ghost use Rattle.unit.specs.Runs.{Event, tick, load, answer_to};
 ghost use Rattle.running.specs.Running.{reply_to};
-ghost use Rattle.exported_unit.specs.Exported.{state_from, unit_of, stage_numbers, times_of, command_of, event_of, told_by, more_ticks, more_runs, event_from, ticks_from};
+ghost use Rattle.exported_unit.specs.Exported.{state_from, unit_of, stage_numbers, times_of, command_of, event_of, told_by, told_of, event_from, ticks_from};
 
 use flow::Now;
 use rows::NUMBERS;
-use running::{Answered, Running};
-use sheet::Answer;
+use running::Running;
+use sheet::{Answer, Sheet};
 use stage::Command;
 use state::State;
-use unit::{Reply, Unit};
+use unit::Unit;
 
 const STAGE: usize = 7;
 
 const TIMES: usize = 3;
 
-// What is told of a reply: the answer, and what the unit then shows and counts.
+// What is told of a reply: the answer, and what the unit then shows and counts, after a refusal too.
 #[derive(Clone, Copy)]
 pub struct Told {
     pub answer: Answer,
     pub now: Now,
+}
+
+// A unit, or a running one: what it is after an event, what it answers, and what it shows and counts.
+trait TakesEvents: Copy {
+    ghost after: { Self → Event → Self };
+
+    ghost answer: { Self → Event → Answer };
+
+    ghost shows: { Self → Now };
+
+    fn load(self, sheet: Sheet) -> (Self, Answer)
+        ensures { result ≡ (after self (load sheet), answer self (load sheet)) };
+
+    fn tick(self, command: Command, call: bool) -> (Self, Answer)
+        ensures { result ≡ (after self (tick command call), answer self (tick command call)) };
+
+    fn now(self) -> Now
+        ensures { result ≡ shows self };
+}
+
+impl TakesEvents for Unit {
+    ghost after = { λ u e. (answer_to u e).unit };
+
+    ghost answer = { λ u e. (answer_to u e).answer };
+
+    ghost shows = { now_of };
+
+    fn load(self, sheet: Sheet) -> (Unit, Answer) {
+        let reply = Unit::load(self, sheet);
+        (reply.unit, reply.answer)
+    }
+
+    fn tick(self, command: Command, call: bool) -> (Unit, Answer) {
+        let reply = Unit::tick(self, command, call);
+        (reply.unit, reply.answer)
+    }
+
+    fn now(self) -> Now {
+        Now {
+            stage: self.stage,
+            count: self.count,
+        }
+    }
+}
+
+impl TakesEvents for Running {
+    ghost after = { λ r e. (reply_to r e).running };
+
+    ghost answer = { λ r e. (reply_to r e).answer };
+
+    ghost shows = { λ r. r.now };
+
+    fn load(self, sheet: Sheet) -> (Running, Answer) {
+        let reply = running_start::load(self, sheet);
+        (reply.running, reply.answer)
+    }
+
+    fn tick(self, command: Command, call: bool) -> (Running, Answer) {
+        let reply = running_tick::tick(self, command, call);
+        (reply.running, reply.answer)
+    }
+
+    fn now(self) -> Now {
+        self.now
+    }
 }
 
 fn state_of(stage: &[u32; STAGE], times: &[u64; TIMES]) -> State
@@ -47,11 +113,9 @@ fn state_of(stage: &[u32; STAGE], times: &[u64; TIMES]) -> State
 fn unit_of(sheet: &[u32; NUMBERS], stage: &[u32; STAGE], times: &[u64; TIMES]) -> Unit
     ensures { result ≡ unit_of sheet.now stage.now times.now }
 {
-    let held = from_numbers::sheet_of(sheet);
-    let shown = from_state::stage_of(state_of(stage, times));
     Unit {
-        sheet: held,
-        stage: shown,
+        sheet: from_numbers::sheet_of(sheet),
+        stage: from_state::stage_of(state_of(stage, times)),
         count: times[2],
     }
 }
@@ -60,31 +124,28 @@ fn unit_of(sheet: &[u32; NUMBERS], stage: &[u32; STAGE], times: &[u64; TIMES]) -
 fn stored(told: Told, stage: &mut [u32; STAGE], times: &mut [u64; TIMES]) -> u64
     ensures { (result ≡ code_of told.answer) × (stage.new ≡ stage_numbers told.now) × (times.new ≡ times_of told.now) }
 {
-    let later = told.now;
-    let shown = later.stage;
-    let answer = told.answer;
-    let n = to_state::numbers_of(shown);
+    let n = to_state::numbers_of(told.now.stage);
     *stage = [
         n.kind, n.place, n.follows, n.next, n.phase, n.light, n.walker,
     ];
-    *times = [n.spent, n.walked, later.count];
-    numbering::code(answer)
+    *times = [n.spent, n.walked, told.now.count];
+    numbering::code(told.answer)
 }
 
-// 0 for none, n + 1 for end, next n.
+// 0 for none, n + 1 for end, next n. A function and no `From`: it is this interface's number of a command, and not the command's own.
+#[tactic(auto, unfolding(units::specs::Numbers::pick, crate::specs::Exported::command_of))]
 fn command_of(n: u32) -> Command
     ensures { result ≡ command_of n }
 {
-    if n == 0 {
-        Command::None
-    } else {
-        Command::End(n - 1)
+    match n {
+        0 => Command::None,
+        _ => Command::End(n - 1),
     }
 }
 
 // The event: 0 for the loader, else a tick with the command that the number is one more than.
-fn first(unit: Unit, event: u32, offered: &[u32; NUMBERS], call: bool) -> Reply
-    ensures { result ≡ answer_to unit (event_of event offered.now call) }
+fn first<T: TakesEvents>(unit: T, event: u32, offered: &[u32; NUMBERS], call: bool) -> (T, Answer)
+    ensures { result ≡ (T.after unit (event_of event offered.now call), T.answer unit (event_of event offered.now call)) }
 {
     if event == 0 {
         unit.load(from_numbers::sheet_of(offered))
@@ -94,56 +155,16 @@ fn first(unit: Unit, event: u32, offered: &[u32; NUMBERS], call: bool) -> Reply
 }
 
 // So many ticks more, without a command. The answer stays that of the first.
-fn ticks(first: Reply, call: bool, more: u32) -> Told
-    ensures { result ≡ told_by (more_ticks first call more) }
+fn ticks<T: TakesEvents>(first: (T, Answer), call: bool, more: u32) -> Told
+    ensures { result ≡ told_of T.after T.shows first call more }
 {
-    let mut unit = first.unit;
-    let answer = first.answer;
-    let mut i: u32 = 0;
-    while i < more {
-        let ticked = unit.tick(Command::None, call);
-        let later = ticked.unit;
-        unit = later;
-        i += 1;
+    let (mut unit, answer) = first;
+    for _i in 0..more {
+        unit = unit.tick(Command::None, call).0;
     }
-    let stage = unit.stage;
-    let now = Now {
-        stage: stage,
-        count: unit.count,
-    };
     Told {
-        answer: answer,
-        now: now,
-    }
-}
-
-// The same event, and the same ticks, of a running unit.
-fn first_running(running: Running, event: u32, offered: &[u32; NUMBERS], call: bool) -> Answered
-    ensures { result ≡ reply_to running (event_of event offered.now call) }
-{
-    if event == 0 {
-        running_start::load(running, from_numbers::sheet_of(offered))
-    } else {
-        running_tick::tick(running, command_of(event - 1), call)
-    }
-}
-
-fn ran(first: Answered, call: bool, more: u32) -> Told
-    ensures { result ≡ more_runs first call more }
-{
-    let mut running = first.running;
-    let answer = first.answer;
-    let mut i: u32 = 0;
-    while i < more {
-        let ran = running_tick::tick(running, Command::None, call);
-        let later = ran.running;
-        running = later;
-        i += 1;
-    }
-    let now = running.now;
-    Told {
-        answer: answer,
-        now: now,
+        answer,
+        now: unit.now(),
     }
 }
 
@@ -157,12 +178,10 @@ fn told_by(
 ) -> Told
     ensures { result ≡ told_by (event_from unit event offered.now call more) }
 {
+    // Only which type takes the events: a flag, as the C function has it.
     if kept {
-        ran(
-            first_running(take_over::take_over(unit), event, offered, call),
-            call,
-            more,
-        )
+        let running = take_over::take_over(unit);
+        ticks(first(running, event, offered, call), call, more)
     } else {
         ticks(first(unit, event, offered, call), call, more)
     }

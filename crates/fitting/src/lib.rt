@@ -8,19 +8,12 @@ use flow::Now;
 use measured::Measured;
 use sheet::Sheet;
 
+// A refused sheet does not, nor a count above line 3.
+#[tactic(auto, unfolding(units::specs::Numbers::pick, crate::specs::Fitting::fits_by))]
 pub fn fits(m: Measured, sheet: Sheet, now: Now) -> bool
     ensures { result ≡ fits_by m sheet now }
 {
-    let t = m.lengths;
-    let answer = m.answer;
-    let stage = now.stage;
-    if answers::is_fine(answer) {
-        if now.count <= t.l03 {
-            fitness::stage_fits(t, sheet, stage)
-        } else {
-            false // a count above line 3
-        }
-    } else {
-        false // a refused sheet
-    }
+    m.answer.is_ok()
+        && now.count <= m.lengths.l03
+        && fitness::stage_fits(m.lengths, sheet, now.stage)
 }

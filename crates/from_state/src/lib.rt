@@ -8,6 +8,7 @@ use phase::{Light, Walker};
 use stage::{Place, Stage, Then};
 use state::State;
 
+#[tactic(auto, unfolding(units::specs::Numbers::pick, state::specs::State::place_of))]
 fn place_of(n: u32) -> Place
     ensures { result ≡ place_of n }
 {
@@ -17,6 +18,7 @@ fn place_of(n: u32) -> Place
     }
 }
 
+#[tactic(auto, unfolding(units::specs::Numbers::pick, state::specs::State::then_of))]
 fn then_of(n: u32, next: u32) -> Then
     ensures { result ≡ then_of n next }
 {
@@ -29,6 +31,7 @@ fn then_of(n: u32, next: u32) -> Then
     }
 }
 
+#[tactic(auto, unfolding(units::specs::Numbers::pick, state::specs::State::light_of))]
 fn light_of(n: u32, spent: u64) -> Light
     ensures { result ≡ light_of n spent }
 {
@@ -39,6 +42,7 @@ fn light_of(n: u32, spent: u64) -> Light
     }
 }
 
+#[tactic(auto, unfolding(units::specs::Numbers::pick, state::specs::State::walker_of))]
 fn walker_of(n: u32, spent: u64) -> Walker
     ensures { result ≡ walker_of n spent }
 {
@@ -48,12 +52,13 @@ fn walker_of(n: u32, spent: u64) -> Walker
     }
 }
 
-// The stage of these numbers; a number beyond the last that is named is taken for the last.
+// The stage of these numbers; a number beyond the last that is named is taken for the last, so that no numbers are refused and a
+// `TryFrom` has nothing to say.
+#[tactic(auto, unfolding(units::specs::Numbers::pick, state::specs::State::stage_of))]
 pub fn stage_of(n: State) -> Stage
     ensures { result ≡ stage_of n }
 {
-    let kind = n.kind;
-    match kind {
+    match n.kind {
         0 => Stage::TrackGreen,
         1 => Stage::TrackYellow {
             place: place_of(n.place),

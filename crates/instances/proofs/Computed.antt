@@ -4,11 +4,11 @@ use mathlib.Core.Bool.{true, false}
 use mathlib.Core.List.{List, [], ◌∷◌, ◌++◌}
 use mathlib.Core.Path.{◌≡◌, refl}
 use Rattle.units.specs.Numbers.{up, pick}
-use Rattle.sheet.specs.declared.Answer.TheVariants.{Fine, Refused}
+use Rattle.std.specs.Prelude.{Ok}
+use Rattle.sheet.specs.Refusals.{refused, or_else, unless}
 use Rattle.sheet.specs.declared.Refusal.TheVariants.{ClearanceTooShort, TrackLongerThanTransfer}
 use Rattle.sheet.specs.declared.Sheet.{Sheet}
 use Rattle.sheet.specs.Entries.{is_in}
-use Rattle.sheet.specs.Refusals.{or_else, unless}
 use Rattle.transfer.specs.Transfer.{pedestrian_time, time_of, worse_of, worst_from}
 use Rattle.rows.specs.Table.{kind_of, form_of, ranges_of, width_of, place_of, used_ranges, in_range, in_ranges, present}
 use Rattle.numbers.specs.Flat.{grade_number, numbers_from, flat_of}
@@ -32,7 +32,7 @@ use Rattle.stage.specs.declared.Stage.{Stage}
 use Rattle.stage.specs.declared.Stage.TheVariants.{TrackGreen, TrackYellow, TrackRed, Ending, ClearanceGreen, AllRed}
 use Rattle.stage.specs.declared.Then.TheVariants.{ToTrack, ToClearance, ToDwell}
 use Rattle.stage.specs.Commands.{may_start, allowed_in, allowed_at, allowed, home, next, ended, obeyed}
-use Rattle.stage.specs.Listed.{find_in, is_at, or_zero}
+use Rattle.stage.specs.Listed.{find_in}
 use Rattle.stage.specs.Shown.{in_normal, is_normal, normal_before, stays_normal}
 use Rattle.stage.specs.Times.{add_one}
 use Rattle.flow.specs.declared.Now.{Now}
@@ -96,12 +96,12 @@ pub record Worked : Type 0 where
   pub levelled_l25 : (worksheet_of levelled).lines.l25.0 ≡ 292
   pub side_goes : Goes side_streets paper
   pub side_l16 : (worksheet_of side_streets).lines.l16.0 ≡ ticks_back
-  pub six_beside : accept_of (clears_by 55) ≡ Fine
-  pub six_refused : accept_of (clears_by 54) ≡ Refused ClearanceTooShort 9
+  pub six_beside : accept_of (clears_by 55) ≡ Ok tt
+  pub six_refused : accept_of (clears_by 54) ≡ refused ClearanceTooShort 9
   pub six_l17 : (l17 (clears_by 54)).0 ≡ 126
   pub six_lengths : own_lengths (clears_by 54) ≡ paper
-  pub ten_beside : accept_of (phases_of 10) ≡ Fine
-  pub ten_refused : accept_of (phases_of 9) ≡ Refused TrackLongerThanTransfer 0
+  pub ten_beside : accept_of (phases_of 10) ≡ Ok tt
+  pub ten_refused : accept_of (phases_of 9) ≡ refused TrackLongerThanTransfer 0
   pub ten_l17 : (l17 (phases_of 9)).0 ≡ 61
   pub ten_lengths : own_lengths (phases_of 9) ≡ paper
 
@@ -188,7 +188,7 @@ pub record Walked : Type 0 where
   pub ten_62 : shown paper (phases_of 9) [] (as_yellow_starts 60) ≡ ClearanceGreen 0
 
 pub walked : Walked
-unfolding stepped pick one_more add_light add_walker after_walk walk_over clearance_over green_over after_green after_yellow phase_over over_or_stays find_in is_at or_zero add_one is_in may_start allowed_in allowed_at allowed home next ended obeyed in_normal is_normal normal_before stays_normal counting count_to count_after answered unless_owed open_dropped ending_dropped dropped becomes begins called overdue enter settle_red settle_yellow settle_green settled_as settle heard sheet_with naming
+unfolding stepped pick one_more add_light add_walker after_walk walk_over clearance_over green_over after_green after_yellow phase_over over_or_stays find_in add_one is_in may_start allowed_in allowed_at allowed home next ended obeyed in_normal is_normal normal_before stays_normal counting count_to count_after answered unless_owed open_dropped ending_dropped dropped becomes begins called overdue enter settle_red settle_yellow settle_green settled_as settle heard sheet_with naming
 walked =
     record {
       paper_1 = refl;

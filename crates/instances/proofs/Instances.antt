@@ -11,7 +11,7 @@ use borrow.Author.Tests.{ltb-true, ltb-false}
 use Rattle.units.specs.Numbers.{pick}
 use Rattle.units.specs.declared.Tenths.{Tenths}
 use Rattle.units.proofs.Steps.{split}
-use Rattle.sheet.specs.declared.Answer.TheVariants.{Fine}
+use Rattle.std.specs.Prelude.{Ok}
 use Rattle.sheet.specs.declared.Sheet.{Sheet}
 use Rattle.sheet.proofs.Answers.{is_fine_lem}
 use Rattle.lines.specs.declared.Lines.{Lines}
@@ -97,7 +97,7 @@ calls_on : (n : ℕ) → CallOn (calls n)
 calls_on zero = tt
 calls_on (suc n) = (refl, calls_on n)
 
-start_fine : (s : Sheet) → accepted s ≡ true → (start_of s).answer ≡ Fine
+start_fine : (s : Sheet) → accepted s ≡ true → (start_of s).answer ≡ Ok tt
 unfolding restarted pick
 start_fine s a = rw a (is_fine_lem (worksheet_of s).answer a)
 

@@ -1,8 +1,8 @@
 -- The definitions of Demand.antt, run: the paper's two examples, a sheet on which every bound of demand 3 is met with equality, two on which the
 -- trailer is just spared and just hit, one on which line 25 decides line 51, one on which dwell is left line 16 after the call went off, and two that
 -- refusals 6 and 10 keep out, on which the green would come after line 17.
-use Rattle.std.specs.Prelude.{ℕ, ◌+◌, ◌≤◌, true, false, List, [], ◌∷◌, ◌++◌, ◌≡◌, pos, replicate}
-use Rattle.sheet.specs.declared.Answer.TheVariants.{Fine, Refused}
+use Rattle.std.specs.Prelude.{ℕ, ◌+◌, ◌≤◌, true, false, List, [], ◌∷◌, ◌++◌, ◌≡◌, pos, replicate, Ok}
+use Rattle.sheet.specs.Refusals.{refused}
 use Rattle.sheet.specs.declared.Phase.{Phase}
 use Rattle.sheet.specs.declared.Refusal.TheVariants.{ClearanceTooShort, TrackLongerThanTransfer}
 use Rattle.sheet.specs.declared.Sheet.{Sheet}
@@ -211,7 +211,7 @@ clears_by clearance = varied (phase 2 50 0 40 15 0 0 0) (phase 4 40 0 35 20 70 c
 
 abbrev pub WithoutSix : Type 0
 WithoutSix =
-    (accept_of (clears_by 55) ≡ Fine) × (accept_of (clears_by 54) ≡ Refused ClearanceTooShort 9) × (ticks (l17 (clears_by 54)) ≡ 126)
+    (accept_of (clears_by 55) ≡ Ok tt) × (accept_of (clears_by 54) ≡ refused ClearanceTooShort 9) × (ticks (l17 (clears_by 54)) ≡ 126)
     × (stepped_at (clears_by 54) towards_four (calls 126) ≡ Ending Normal 4 ToClearance (Red 19) (Clearance 54))
     × (stepped_at (clears_by 54) towards_four (calls 127) ≡ ClearanceGreen 0)
 
@@ -225,5 +225,5 @@ as_yellow_starts n = tick None true ∷ (tick (End 2) true ∷ calls n)
 
 abbrev pub WithoutTen : Type 0
 WithoutTen =
-    (accept_of (phases_of 10) ≡ Fine) × (accept_of (phases_of 9) ≡ Refused TrackLongerThanTransfer 0) × (ticks (l17 (phases_of 9)) ≡ 61)
+    (accept_of (phases_of 10) ≡ Ok tt) × (accept_of (phases_of 9) ≡ refused TrackLongerThanTransfer 0) × (ticks (l17 (phases_of 9)) ≡ 61)
     × (stepped_at (phases_of 9) [] (as_yellow_starts 59) ≡ TrackRed Normal ToClearance 19) × (stepped_at (phases_of 9) [] (as_yellow_starts 60) ≡ ClearanceGreen 0)

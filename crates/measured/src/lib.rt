@@ -7,7 +7,7 @@ ghost use Rattle.measured.specs.Measured.{measure_of};
 use sheet::{Answer, Sheet};
 use stage::Lengths;
 
-// The answer to the sheet, and the lengths that its unit goes by.
+// The answer to the sheet, and the lengths that its unit goes by. Not a `Result`: the contract of `measure` gives the lengths of a refused sheet too.
 #[derive(Clone, Copy)]
 pub struct Measured {
     pub answer: Answer,
@@ -17,18 +17,14 @@ pub struct Measured {
 pub fn measure(sheet: Sheet) -> Measured
     ensures { result ≡ measure_of sheet }
 {
-    let yellow = sheet.track_yellow as u64;
-    let red = sheet.track_red as u64;
     let timed = form::timed(sheet);
-    let answer = timed.answer;
-    let t = Lengths {
-        l03: ruled::ticks(timed.l03),
-        l51: ruled::ticks(timed.l51),
-        track_yellow: yellow,
-        track_red: red,
-    };
     Measured {
-        answer: answer,
-        lengths: t,
+        answer: timed.answer,
+        lengths: Lengths {
+            l03: ruled::ticks(timed.l03),
+            l51: ruled::ticks(timed.l51),
+            track_yellow: u64::from(sheet.track_yellow),
+            track_red: u64::from(sheet.track_red),
+        },
     }
 }

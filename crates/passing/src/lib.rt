@@ -12,12 +12,8 @@ pub fn pass(t: Lengths, sheet: Sheet, call: bool, count: u32, start: Now) -> Now
     ensures { result ≡ passing t sheet call count start }
 {
     let mut now = start;
-    let mut i: u32 = 0;
-    while i < count {
-        let next = steady::tick(t, sheet, now, Command::None, call);
-        let later = next.now;
-        now = later;
-        i += 1;
+    for _i in 0..count {
+        now = steady::tick(t, sheet, now, Command::None, call).now;
     }
     now
 }

@@ -15,9 +15,8 @@ use Rattle.phase.specs.declared.Light.{Light}
 use Rattle.phase.specs.declared.Light.TheVariants.{Green}
 use Rattle.phase.specs.declared.Walker.{Walker}
 use Rattle.phase.specs.declared.Walker.TheVariants.{Walk}
-use Rattle.phase.specs.declared.Settled.{Settled}
-use Rattle.phase.specs.declared.Settled.TheVariants.{Stays, Over}
-use Rattle.phase.specs.Ending.{settle_phase}
+use Rattle.std.specs.Prelude.{Some, None}
+use Rattle.phase.specs.Ending.{Settled, settle_phase}
 use Rattle.phase.specs.Times.{one_more}
 use Rattle.phase.specs.Promises as phases
 use Rattle.phase.proofs.Left.{Left, tick_left, left_none, ends_from, settle_left}
@@ -55,21 +54,21 @@ Within t s k TrackGreen = ⊥
 Within t s k (TrackYellow p z i) = (z ≡ ToClearance) × (i < t.track_yellow) × (t.track_yellow + t.track_red ≤ i + k)
 Within t s k (TrackRed p z i) = (z ≡ ToClearance) × (i < t.track_red) × (t.track_red ≤ i + k)
 Within t s k (Open p n g w) = ⊥
-Within t s k (Ending p n z l w) = (z ≡ ToClearance) × Left (phase_of s n) k (Stays l w)
+Within t s k (Ending p n z l w) = (z ≡ ToClearance) × Left (phase_of s n) k (Some (l, w))
 Within t s k (ClearanceGreen j) = ⊥
 Within t s k AllRed = ⊥
 
 -- with none left it would be over
 abbrev IsOver : Settled → Type 0
-IsOver (Stays l w) = ⊥
-IsOver Over = Prim.Unit {0}
+IsOver (Some (l, w)) = ⊥
+IsOver None = Prim.Unit {0}
 
 pub none_left : (t : Lengths) (s : Sheet) (st : Stage) → Within t s 0 st → ⊥
 none_left t s TrackGreen h = h
 none_left t s (TrackYellow p z i) h = omega (arith, h.1, h.2)
 none_left t s (TrackRed p z i) h = omega (arith, h.1, h.2)
 none_left t s (Open p n g w) h = h
-none_left t s (Ending p n z l w) h = subst IsOver (sym (left_none (phase_of s n) (Stays l w) h.1)) tt
+none_left t s (Ending p n z l w) h = subst IsOver (sym (left_none (phase_of s n) (Some (l, w)) h.1)) tt
 none_left t s (ClearanceGreen j) h = h
 none_left t s AllRed h = h
 
@@ -115,8 +114,8 @@ module _ (t : Lengths) (s : Sheet) (call : Bool) where
 
   ending_next : (k : ℕ) (p : Place) (n : ℕ) (z : Then) (x : Settled) → z ≡ ToClearance → Left (phase_of s n) k x → Next t s k (settled_as call p n z x)
   unfolding settled_as
-  ending_next k p n z (Stays l w) o h = within (Ending p n z l w) (o, h)
-  ending_next k p n z Over o h = enter_next k p z o
+  ending_next k p n z (Some (l, w)) o h = within (Ending p n z l w) (o, h)
+  ending_next k p n z None o h = enter_next k p z o
 
   next : (k : ℕ) (st : Stage) → Within t s (suc k) st → Next t s k (settle t s call (add_one t s st))
   unfolding add_one settle phases.tick
@@ -124,7 +123,7 @@ module _ (t : Lengths) (s : Sheet) (call : Bool) where
   next k (TrackYellow p z i) h = rw (up_one i t.track_yellow h.1) (yellow_next k p z (i + 1) h.0 (omega (arith, h.1)) (omega (arith, h.2)))
   next k (TrackRed p z i) h = rw (up_one i t.track_red h.1) (red_next k p z (i + 1) h.0 (omega (arith, h.2)))
   next k (Open p n g w) h = absurd h
-  next k (Ending p n z l w) h = ending_next k p n z _ h.0 (tick_left (phase_of s n) k (Stays l w) h.1)
+  next k (Ending p n z l w) h = ending_next k p n z _ h.0 (tick_left (phase_of s n) k (Some (l, w)) h.1)
   next k (ClearanceGreen j) h = absurd h
   next k AllRed h = absurd h
 

@@ -8,11 +8,10 @@ use borrow.Author.Tests.{ne_eqb}
 use Rattle.units.specs.Numbers.{pick}
 use Rattle.units.proofs.Steps.{cases, never, both_left, both_right}
 use Rattle.sheet.specs.declared.Sheet.{Sheet}
-use Rattle.phase.specs.declared.Settled.{Settled}
-use Rattle.phase.specs.declared.Settled.TheVariants.{Stays, Over}
-use Rattle.phase.specs.Ending.{settle_phase}
+use Rattle.std.specs.Prelude.{Some, None}
+use Rattle.phase.specs.Ending.{Settled, settle_phase}
 use Rattle.stage.specs.declared.Command.{Command}
-use Rattle.stage.specs.declared.Command.TheVariants.{None, End}
+use Rattle.stage.specs.declared.Command.TheVariants.{None as NoCommand, End}
 use Rattle.stage.specs.declared.Lengths.{Lengths}
 use Rattle.stage.specs.declared.Place.{Place}
 use Rattle.stage.specs.declared.Place.TheVariants.{Normal, Train}
@@ -55,8 +54,8 @@ module _ (t : Lengths) (s : Sheet) (call : Bool) where
 
   settled_normal : (p : Place) (n : ℕ) (z : Then) (x : Settled) → normal_before p z ≡ true → Normally (settled_as call p n z x)
   unfolding settled_as in_normal
-  settled_normal p n z (Stays l w) e = e
-  settled_normal p n z Over e = enter_normal p z e
+  settled_normal p n z (Some (l, w)) e = e
+  settled_normal p n z None e = enter_normal p z e
 
   settle_normal : (st : Stage) → Normally st → Normally (settle t s call st)
   unfolding settle in_normal
@@ -86,7 +85,7 @@ ended_normal n AllRed e = never e
 
 obeyed_normal : (st : Stage) (c : Command) → Normally st → Normally (obeyed st c)
 unfolding obeyed
-obeyed_normal st None e = e
+obeyed_normal st NoCommand e = e
 obeyed_normal st (End n) e = ended_normal n st e
 
 -- ---- a tick that does not bring the count to line 3

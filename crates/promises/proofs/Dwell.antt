@@ -13,8 +13,8 @@ use Rattle.sheet.specs.Refusals.{is_fine}
 use Rattle.sheet.specs.Zero.{zero_sheet}
 use Rattle.phase.specs.declared.Light.{Light}
 use Rattle.phase.specs.declared.Walker.{Walker}
-use Rattle.phase.specs.declared.Settled.{Settled}
-use Rattle.phase.specs.declared.Settled.TheVariants.{Stays, Over}
+use Rattle.phase.specs.Ending.{Settled}
+use Rattle.std.specs.Prelude.{Some, None}
 use Rattle.phase.specs.Promises as phases
 use Rattle.phase.proofs.Left.{Left, tick_left, left_none}
 use Rattle.phase.proofs.Rest as phase_rest
@@ -97,7 +97,7 @@ record Leaves (u : Unit) (n k : ℕ) : Type 0 where
   light : Light
   walker : Walker
   stage : u.stage ≡ leave n light walker
-  left : Left (phase_of u.sheet n) k (Stays light walker)
+  left : Left (phase_of u.sheet n) k (Some (light, walker))
 
 leaves_leaving : (u : Unit) (n k : ℕ) → Leaves u n k → Leaving n u.stage
 leaves_leaving u n k h = subst (Leaving n) (sym h.stage) (refl, refl, refl)
@@ -107,11 +107,11 @@ leaves_refuses u s n k h = elsewhere_refuses u s (λ e. subst (Leaving n) e (lea
 
 -- with none left it would be over
 abbrev IsOver : Settled → Type 0
-IsOver (Stays l w) = ⊥
-IsOver Over = Prim.Unit {0}
+IsOver (Some (l, w)) = ⊥
+IsOver None = Prim.Unit {0}
 
 none_leaves : (u : Unit) (n : ℕ) → Leaves u n 0 → ⊥
-none_leaves u n h = subst IsOver (sym (left_none (phase_of u.sheet n) (Stays h.light h.walker) h.left)) tt
+none_leaves u n h = subst IsOver (sym (left_none (phase_of u.sheet n) (Some (h.light, h.walker)) h.left)) tt
 
 unit_yellow : (u : Unit) → fits u ≡ true → 0 < (lengths_of u.sheet).track_yellow
 unit_yellow u f = omega (arith, (sheets.is_sound u.sheet (fits_sheet u f)).track_yellow.low)
@@ -120,13 +120,13 @@ unit_yellow u f = omega (arith, (sheets.is_sound u.sheet (fits_sheet u f)).track
 module _ (u : Unit) (c : Command) (call : Bool) (n k : ℕ) (f : fits u ≡ true) (h : Leaves u n (suc k)) where
   one_off : Left (phase_of u.sheet n) k (comes_to u.sheet n h.light h.walker)
   unfolding phases.tick
-  one_off = tick_left (phase_of u.sheet n) k (Stays h.light h.walker) h.left
+  one_off = tick_left (phase_of u.sheet n) k (Some (h.light, h.walker)) h.left
 
   leaves_tick : Leaves (onward u c call) n k ⊎ Back (now_of (onward u c call))
   leaves_tick =
       by_outcome (leave_tick (lengths_of u.sheet) u.sheet c call (now_of u) n (unit_lasts u f) (unit_yellow u f) h.light h.walker h.stage)
     where
-      by_outcome : (((l : Light) × (w : Walker) × (comes_to u.sheet n h.light h.walker ≡ Stays l w) × ((onward u c call).stage ≡ leave n l w)) ⊎ Back (now_of (onward u c call)))
+      by_outcome : (((l : Light) × (w : Walker) × (comes_to u.sheet n h.light h.walker ≡ Some (l, w)) × ((onward u c call).stage ≡ leave n l w)) ⊎ Back (now_of (onward u c call)))
           → Leaves (onward u c call) n k ⊎ Back (now_of (onward u c call))
       by_outcome (inl (l, w, e, d)) = inl (record { light = l; walker = w; stage = d; left = subst (Left (phase_of u.sheet n) k) e one_off })
       by_outcome (inr b) = inr b
@@ -189,13 +189,13 @@ at_rest u n f r h =
     let l = e.0 in
     let w = e.1 in
     let fit : stage_fits (lengths_of s) s (leave n l w) ≡ true = subst (λ (v : Stage). stage_fits (lengths_of s) s v ≡ true) e.2 (fits_told u f).stage in
-    let rests : phases.Rests (phase_of s n) (Stays l w) = subst (Rests (lengths_of s) s) e.2 r in
+    let rests : phases.Rests (phase_of s n) (Some (l, w)) = subst (Rests (lengths_of s) s) e.2 r in
     record {
       light = l;
       walker = w;
       stage = e.2;
       left =
-          subst (Left (phase_of s n) (sixteen s)) (phase_rest.kept (phase_of s n) (Stays l w) rests)
+          subst (Left (phase_of s n) (sixteen s)) (phase_rest.kept (phase_of s n) (Some (l, w)) rests)
           (phase_left (lengths_of s) s (fits_sheet u f) (unit_lasts u f) n l w (both_right (then_fits s ToTrack) _ fit));
     }
 

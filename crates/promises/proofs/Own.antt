@@ -7,14 +7,13 @@ use mathlib.Core.Path.{◌≡◌}
 use native.Mathlib.Omega.{arith}
 use lib.Dec.{eqb}
 use Rattle.units.proofs.Steps.{cases}
-use Rattle.sheet.specs.declared.Answer.{Answer}
-use Rattle.sheet.specs.declared.Answer.TheVariants.{Fine, Refused}
+use Rattle.sheet.specs.Refusals.{Answer, number_of, answer_number, or_else, unless}
+use Rattle.std.specs.Prelude.{Ok, Err}
 use Rattle.sheet.specs.declared.Phase.{Phase}
 use Rattle.sheet.specs.declared.Refusal.{Refusal}
 use Rattle.sheet.specs.declared.Sheet.{Sheet}
-use Rattle.sheet.specs.Refusals.{number_of, answer_number, or_else, unless}
 use Rattle.numbers.specs.Flat.{flat_of, phase_at}
-use Rattle.rows.specs.Table.{list, kind_of, form_of, present, phase_kind, point_kind, first_phase, row_count}
+use Rattle.rows.specs.Table.{is_list, kind_of, form_of, present, phase_kind, point_kind, first_phase, row_count}
 use Rattle.faults.specs.Lines.{phase_fault, before_phase, rule_fault, row_fault, here_fault, line_after, fault_from}
 use Rattle.faults.specs.Whole.{whole_fault, accept_of}
 use Rattle.lines.specs.Worksheet.{worksheet_of}
@@ -27,13 +26,13 @@ use Rattle.promises.specs.Promises.{Never20}
 abbrev Own : Answer → Type 0
 Own a = answer_number a ≡ 20 → ⊥
 
-own_fine : Own Fine
+own_fine : Own (Ok tt)
 own_fine e = omega arith
 
 own_or : (a b : Answer) → Own a → Own b → Own (or_else a b)
 unfolding or_else
-own_or Fine b f g = g
-own_or (Refused r l) b f g = f
+own_or (Ok _) b f g = g
+own_or (Err d) b f g = f
 
 own_unless : (b : Bool) (r : Refusal) (l : ℕ) → (number_of r ≡ 20 → ⊥) → Own (unless b r l)
 unfolding unless
@@ -52,7 +51,7 @@ module _ (v : List ℕ) where
       cases Own (eqb (kind_of row) phase_kind) _ _
       (λ e. own_phase (before_phase v (row - first_phase)) (phase_at v (row - first_phase)) line)
       (λ e. cases Own (eqb (kind_of row) point_kind) _ _ (λ d. own_unless _ _ _ (λ z. omega arith))
-      (λ d. cases Own (eqb (form_of row) list) _ Fine (λ b. own_unless _ _ _ (λ z. omega arith)) (λ b. own_fine)))
+      (λ d. cases Own (is_list (form_of row)) _ (Ok tt) (λ b. own_unless _ _ _ (λ z. omega arith)) (λ b. own_fine)))
 
   own_row : (row line : ℕ) → Own (row_fault v row line)
   unfolding row_fault
@@ -60,7 +59,7 @@ module _ (v : List ℕ) where
 
   own_here : (row line : ℕ) → Own (here_fault v row line)
   unfolding here_fault
-  own_here row line = cases Own (present v row) (row_fault v row line) Fine (λ e. own_row row line) (λ e. own_fine)
+  own_here row line = cases Own (present v row) (row_fault v row line) (Ok tt) (λ e. own_row row line) (λ e. own_fine)
 
   own_from : (n row line : ℕ) → Own (fault_from v n row line)
   unfolding fault_from

@@ -7,10 +7,11 @@ use lib.Dec.{eqb}
 use Rattle.units.specs.Numbers.{pick}
 use Rattle.units.specs.Lists.{All}
 use Rattle.units.proofs.All.{all_from}
-use Rattle.units.proofs.Steps.{cases, never}
-use Rattle.sheet.specs.declared.Answer.TheVariants.{Fine}
+use Rattle.units.proofs.Steps.{split, never}
+use Rattle.std.specs.Prelude.{Ok, is_some, unwrap_or}
 use Rattle.sheet.specs.declared.Phase.{Phase}
 use Rattle.sheet.specs.declared.Sheet.{Sheet}
+use Rattle.sheet.specs.Entries.{listed_phases}
 use Rattle.sheet.specs.Zero.{zero_phase}
 use Rattle.sheet.proofs.Answers.{is_fine_lem}
 use Rattle.transfer.specs.declared.Users.{Users}
@@ -25,24 +26,22 @@ use Rattle.lines.specs.Worksheet.{worksheet_of}
 use Rattle.lines.proofs.Promised.{warning_enough, gates_before_end, advance_enough, lasting}
 use Rattle.phase.specs.Promises.{Fair}
 use Rattle.phase.proofs.Left.{over_in_time}
-use Rattle.stage.specs.declared.Found.{Found}
-use Rattle.stage.specs.declared.Found.TheVariants.{At}
-use Rattle.stage.specs.Listed.{listing, find_in, is_at, or_zero, listed, phase_of}
+use Rattle.stage.specs.Listed.{find_in, listed, phase_of}
 use Rattle.measured.specs.Measured.{lengths_of, accepted}
 use Rattle.promises.specs.Promises.{SixteenEnough}
 
 -- what holds of every listed phase holds of the one that is found
-found : (P : Phase → Type 0) (ps : List Phase) (n : ℕ) → All P ps → is_at (find_in ps n) ≡ true → P (or_zero (find_in ps n))
-unfolding find_in is_at or_zero
+found : (P : Phase → Type 0) (ps : List Phase) (n : ℕ) → All P ps → is_some (find_in ps n) ≡ true → P (unwrap_or (find_in ps n) zero_phase)
+unfolding find_in
 found P [] n a e = never e
 found P (p ∷ ps) n a e =
-    cases (λ (f : Found). is_at f ≡ true → P (or_zero f)) (eqb p.number n) (At p) (find_in ps n) (λ b h. a.0) (λ b h. found P ps n a.1 h) e
+    split (eqb p.number n) (λ b. rw b a.0) (λ b. rw b (found P ps n a.1 (rw b at e)))
 
 fair : (p : Phase) → SoundPhase p → Fair p
 fair p h = record { modes = h.mode; none = h.quiet; enough = h.late }
 
 module _ (s : Sheet) (a : accepted s ≡ true) where
-  is_accepted : accept_of s ≡ Fine
+  is_accepted : accept_of s ≡ Ok tt
   unfolding worksheet_of
   is_accepted = is_fine_lem (accept_of s) a
 
@@ -54,14 +53,14 @@ module _ (s : Sheet) (a : accepted s ≡ true) where
   is_sound = sound s is_accepted
 
   pub listed_fair : (n : ℕ) → listed s n ≡ true → Fair (phase_of s n)
-  listed_fair n h = fair (phase_of s n) (found SoundPhase (listing s) n is_sound.phases h)
+  listed_fair n h = fair (phase_of s n) (found SoundPhase (listed_phases s) n is_sound.phases h)
 
   pub listed_time : (of : Users) (n : ℕ) → listed s n ≡ true → (time_of of (phase_of s n)).0 ≤ (worksheet_of s).lines.l16.0
   unfolding lines_of l16
   listed_time of n h =
       rw lines_are
-      (found (λ (p : Phase). (time_of of p).0 ≤ (l16 s).0) (listing s) n
-      (all_from (λ (p : Phase). (time_of of p).0 ≤ (l16 s).0) (listing s) zero_phase (λ k b. (sixteen (listing s)).2 of k b)) h)
+      (found (λ (p : Phase). (time_of of p).0 ≤ (l16 s).0) (listed_phases s) n
+      (all_from (λ (p : Phase). (time_of of p).0 ≤ (l16 s).0) (listed_phases s) zero_phase (λ k b. (sixteen (listed_phases s)).2 of k b)) h)
 
   pub track_time : s.track_yellow + s.track_red ≤ (worksheet_of s).lines.l16.0
   unfolding lines_of l16

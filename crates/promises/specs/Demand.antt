@@ -1,9 +1,8 @@
 -- Demand 3: a call that begins in normal operation and stays on is answered in time by the track clearance green, however the commands and
 -- loads go. The events and `run` are those of the unit: `tick c call`, with its command and whether it sees the call on, and `load s`.
-use Rattle.std.specs.Prelude.{ℕ, zero, suc, ◌+◌, ◌≤◌, ◌<◌, Bool, true, false, List, [], ◌∷◌, ◌≡◌}
+use Rattle.std.specs.Prelude.{ℕ, zero, suc, ◌+◌, ◌≤◌, ◌<◌, Bool, true, false, List, [], ◌∷◌, ◌≡◌, Ok}
 use Rattle.units.specs.Numbers.{pick}
 use Rattle.units.specs.declared.Tenths.{Tenths}
-use Rattle.sheet.specs.declared.Answer.TheVariants.{Fine}
 use Rattle.sheet.specs.declared.Sheet.{Sheet}
 use Rattle.sheet.specs.Refusals.{is_fine}
 use Rattle.rules.specs.Rules.{ticks}
@@ -132,7 +131,7 @@ pub record Demanded (u : Unit) (es : List Event) (g : ℕ) : Type 0 where
 -- from a fresh start, whatever came before, and whatever comes after the call's first tick as long as the call stays on
 abbrev pub ForEveryCall : (Unit → List Event → Type 0) → Type 0
 ForEveryCall P =
-    (s : Sheet) → (start_of s).answer ≡ Fine → (past : List Event) → MayBegin (start_of s).unit past
+    (s : Sheet) → (start_of s).answer ≡ Ok tt → (past : List Event) → MayBegin (start_of s).unit past
     → (c : Command) (es : List Event) → CallOn es → P (run (start_of s).unit past) (tick c true ∷ es)
 
 abbrev pub Demand3 : Type 0

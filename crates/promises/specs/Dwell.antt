@@ -1,7 +1,6 @@
 -- Side streets during dwell (2026-01): "movements that don't cross the tracks" run while the train passes, and those that the sheet names alone. What
 -- is promised of them from a fresh start, over any ticks, commands and loads. Ticks are counted as in demand 3.
-use Rattle.std.specs.Prelude.{ℕ, ◌+◌, ◌≤◌, ◌<◌, List, false, ◌≡◌}
-use Rattle.sheet.specs.declared.Answer.TheVariants.{Fine}
+use Rattle.std.specs.Prelude.{ℕ, ◌+◌, ◌≤◌, ◌<◌, List, false, ◌≡◌, Ok}
 use Rattle.sheet.specs.declared.Sheet.{Sheet}
 use Rattle.stage.specs.declared.Command.{Command}
 use Rattle.flow.specs.Promises.{InDwell, OnlyNamed, Leaving, Back}
@@ -15,7 +14,7 @@ line16 = line (λ l. l.l16)
 
 -- of every unit that a fresh start on a sheet that is not refused comes to
 abbrev pub Always : (Unit → Type 0) → Type 0
-Always P = (s : Sheet) → (start_of s).answer ≡ Fine → (past : List Event) → P (run (start_of s).unit past)
+Always P = (s : Sheet) → (start_of s).answer ≡ Ok tt → (past : List Event) → P (run (start_of s).unit past)
 
 -- every phase shown in dwell, or next there, is named on the sheet held
 abbrev pub OnlyNamedInDwell : Type 0

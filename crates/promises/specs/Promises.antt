@@ -1,14 +1,12 @@
 -- What stands beside demand 3: that no call is counted where one may begin, why the sheet is the same throughout the call, why line 16 is enough,
 -- and that nothing is answered 20.
-use Rattle.std.specs.Prelude.{ℕ, ◌+◌, ◌≤◌, true, false, List, ◌∷◌, ◌≡◌}
-use Rattle.sheet.specs.declared.Answer.TheVariants.{Fine}
+use Rattle.std.specs.Prelude.{ℕ, ◌+◌, ◌≤◌, true, false, List, ◌∷◌, ◌≡◌, Ok, None}
 use Rattle.sheet.specs.declared.Sheet.{Sheet}
 use Rattle.sheet.specs.Refusals.{is_fine, answer_number}
 use Rattle.rules.specs.Rules.{ticks}
 use Rattle.lines.specs.Worksheet.{worksheet_of}
 use Rattle.phase.specs.declared.Light.{Light}
 use Rattle.phase.specs.declared.Walker.{Walker}
-use Rattle.phase.specs.declared.Settled.TheVariants.{Over}
 use Rattle.phase.specs.Times.{light_fits, walker_fits}
 use Rattle.phase.specs.Ending.{settle_phase}
 use Rattle.phase.specs.Promises as phases
@@ -21,7 +19,7 @@ use Rattle.promises.specs.Demand.{MayBegin, ForEveryCall}
 -- "off sets the count to 0": where a call may begin none is being counted
 abbrev pub NoneCounted : Type 0
 NoneCounted =
-    (s : Sheet) → (start_of s).answer ≡ Fine → (past : List Event) → MayBegin (start_of s).unit past → (run (start_of s).unit past).count ≡ 0
+    (s : Sheet) → (start_of s).answer ≡ Ok tt → (past : List Event) → MayBegin (start_of s).unit past → (run (start_of s).unit past).count ≡ 0
 
 -- "The loader takes a sheet only in normal track green with the call count at 0": from the call's first tick on every load is refused, so
 -- the sheet in force is the one that the call met. This is where l02 is "1 to 999": with line 3 at 1 or more the first tick of the call leaves
@@ -40,11 +38,11 @@ SixteenEnough =
     → let line16 = ticks (worksheet_of s).lines.l16 in
     ((n : ℕ) (l : Light) (w : Walker)
     → listed s n ≡ true → light_fits (phase_of s n) l ≡ true → walker_fits (phase_of s n) w ≡ true
-    → phases.ticks (phase_of s n) line16 (settle_phase (phase_of s n) l w) ≡ Over)
+    → phases.ticks (phase_of s n) line16 (settle_phase (phase_of s n) l w) ≡ None)
     × (s.track_yellow + s.track_red ≤ line16)
 
 -- from a fresh start on a sheet that is not refused, no event is ever answered 20
 abbrev pub Never20 : Type 0
 Never20 =
-    (s : Sheet) → (start_of s).answer ≡ Fine → (es : List Event) (e : Event)
+    (s : Sheet) → (start_of s).answer ≡ Ok tt → (es : List Event) (e : Event)
     → answer_number (answer_to (run (start_of s).unit es) e).answer ≡ 20 → ⊥

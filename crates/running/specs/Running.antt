@@ -1,11 +1,10 @@
 -- A running unit: a unit with what its sheet says to the sequence worked out once. Each definition is of any value of it; that one made from a unit
 -- gives what the unit gives is promised in Promises.
-use Rattle.std.specs.Prelude.{ℕ, Bool, true, List, [], ◌∷◌}
+use Rattle.std.specs.Prelude.{ℕ, Bool, List, [], ◌∷◌, Option, Some, None}
 use Rattle.units.specs.Numbers.{pick}
-use Rattle.sheet.specs.declared.Answer.{Answer}
+use Rattle.sheet.specs.Refusals.{refused, unless}
 use Rattle.sheet.specs.declared.Refusal.TheVariants.{UnitUnfit, CommandNotAllowed}
 use Rattle.sheet.specs.declared.Sheet.{Sheet}
-use Rattle.sheet.specs.Refusals.{or_else, unless}
 use Rattle.stage.specs.declared.Command.{Command}
 use Rattle.stage.specs.declared.Lengths.{Lengths}
 use Rattle.flow.specs.declared.Now.{Now}
@@ -19,10 +18,14 @@ use Rattle.unit.specs.Runs.{Event, tick, load, answer_to}
 use Rattle.running.specs.declared.Answered.{Answered}
 use Rattle.running.specs.declared.Running.{Running}
 
--- made from a unit, by one check of it; and the unit of it
-abbrev pub running_of : Unit → Running
-running_of u = record { sheet = u.sheet; fits = unit.fits u; lengths = lengths_of u.sheet; now = unit.now_of u }
+-- made from a unit, by one check of it: the lengths of its sheet where it fits, else none
+abbrev pub lengths_by : Bool → Sheet → Option Lengths
+lengths_by fits s = pick fits (Some (lengths_of s)) None
 
+abbrev pub running_of : Unit → Running
+running_of u = record { sheet = u.sheet; lengths = lengths_by (unit.fits u) u.sheet; now = unit.now_of u }
+
+-- and the unit of it
 abbrev pub unit_of : Running → Unit
 unit_of r = unit.holding r.sheet r.now
 
@@ -33,27 +36,27 @@ with_reply k = record { running = running_of k.unit; answer = k.answer }
 abbrev pub start_of : Sheet → Answered
 start_of s = with_reply (unit.start_of s)
 
--- ---- a tick, by the lengths that it keeps; "After 20 .. the unit is unchanged"
-unfoldable pub ticked_by : Bool → Lengths → Sheet → Now → Command → Bool → Ticked
-ticked_by fits t s now c call = pick fits (ticked t s now c call) (record { now = now; allowed = true })
-
-abbrev pub tick_answer : Bool → Bool → Answer
-tick_answer fits allowed = or_else (unless fits UnitUnfit 0) (unless allowed CommandNotAllowed 0)
-
 abbrev pub onward : Running → Now → Running
-onward r now = record { sheet = r.sheet; fits = r.fits; lengths = r.lengths; now = now }
+onward r now = record { sheet = r.sheet; lengths = r.lengths; now = now }
+
+-- ---- a tick, by the lengths that it keeps; "After 20 .. the unit is unchanged"
+abbrev pub answered : Running → Ticked → Answered
+answered r k = record { running = onward r k.now; answer = unless k.allowed CommandNotAllowed 0 }
+
+unfoldable pub tick_by : Option Lengths → Running → Command → Bool → Answered
+tick_by (Some t) r c call = answered r (ticked t r.sheet r.now c call)
+tick_by None r c call = record { running = r; answer = refused UnitUnfit 0 }
 
 abbrev pub tick_of : Running → Command → Bool → Answered
-tick_of r c call =
-    let k = ticked_by r.fits r.lengths r.sheet r.now c call in
-    record { running = onward r k.now; answer = tick_answer r.fits k.allowed }
+tick_of r c call = tick_by r.lengths r c call
 
 -- that many ticks without a command
-unfoldable pub passed_by : Bool → Lengths → Sheet → Bool → ℕ → Now → Now
-passed_by fits t s call n now = pick fits (passing t s call n now) now
+unfoldable pub pass_by : Option Lengths → Running → Bool → ℕ → Running
+pass_by (Some t) r call n = onward r (passing t r.sheet call n r.now)
+pass_by None r call n = r
 
 abbrev pub pass_of : Running → Bool → ℕ → Running
-pass_of r call n = onward r (passed_by r.fits r.lengths r.sheet call n r.now)
+pass_of r call n = pass_by r.lengths r call n
 
 -- ---- the loader: the unit's own
 abbrev pub load_of : Running → Sheet → Answered

@@ -6,16 +6,15 @@ use flow::Now;
 use sheet::{Answer, Sheet};
 use stage::Lengths;
 
-// What it shows and counts, over its sheet, its lengths and whether it fits.
+// What it shows and counts, over its sheet and the lengths that it goes by: none where it does not fit.
 #[derive(Clone, Copy)]
 pub struct Running {
     pub sheet: Sheet,
-    pub fits: bool,
-    pub lengths: Lengths,
+    pub lengths: Option<Lengths>,
     pub now: Now,
 }
 
-// What a start, a tick and a load reply.
+// What a start, a tick and a load reply. Not a `Result`: a refusal has its unit too, by `SameTick` and `SameLoad`.
 #[derive(Clone, Copy)]
 pub struct Answered {
     pub running: Running,

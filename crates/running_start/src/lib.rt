@@ -4,6 +4,7 @@
 ghost use Rattle.std.specs.Prelude.{◌≡◌};
 ghost use Rattle.running.specs.Running.{with_reply, start_of, load_of};
 
+use flow::Now;
 use running::{Answered, Running};
 use sheet::Sheet;
 use unit::{Reply, Unit};
@@ -11,11 +12,9 @@ use unit::{Reply, Unit};
 fn taken_on(reply: Reply) -> Answered
     ensures { result ≡ with_reply reply }
 {
-    let unit = reply.unit;
-    let told = reply.answer;
     Answered {
-        running: take_over::take_over(unit),
-        answer: told,
+        running: take_over::take_over(reply.unit),
+        answer: reply.answer,
     }
 }
 
@@ -30,13 +29,11 @@ pub fn start(sheet: Sheet) -> Answered
 pub fn load(running: Running, sheet: Sheet) -> Answered
     ensures { result ≡ load_of running sheet }
 {
-    let held = running.sheet;
-    let now = running.now;
-    let stage = now.stage;
+    let Now { stage, count } = running.now;
     let unit = Unit {
-        sheet: held,
-        stage: stage,
-        count: now.count,
+        sheet: running.sheet,
+        stage,
+        count,
     };
     taken_on(unit.load(sheet))
 }

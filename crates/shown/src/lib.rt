@@ -1,36 +1,99 @@
 // What a unit shows, as values: the stage, the phase and its walker.
 #![tactic(auto)]
 
-ghost use Rattle.std.specs.Prelude.{◌≡◌};
-ghost use Rattle.shown.specs.Shown.{plain, placed, lit, lit_in, walker_of, phase_shows, shown_of, same_shown};
+ghost use Rattle.std.specs.Prelude.{◌≡◌, ◌↔◌, IsTrue, Some};
+ghost use Rattle.shown.specs.Shown.{plain, placed, lit_in, walker_of, phase_shows, shown_of, same_shown, aspect_name, on_foot_name};
 
 use phase::{Light, Walker};
 use sheet::{Phase, Sheet};
 use stage::{Place, Stage};
+use std::fmt;
 
-// The stage: 0, 1, 2 the track's green, yellow and red, 3 to 5 those of a phase, 6 to 8 those of track clearance, 9 dwell's all red, 10 to 12 those of a
-// phase in dwell. The phase, 0 for none.
-// The walker: 0 none, 1 walk, 2 clearance.
-#[derive(Clone, Copy)]
+// The stages as they are shown: the track's green, yellow and red, those of a phase, those of track clearance, dwell's all red, and those of a phase in
+// dwell.
+#[derive(Clone, Copy, PartialEq, Eq)]
+pub enum Aspect {
+    TrackGreen,
+    TrackYellow,
+    TrackRed,
+    PhaseGreen,
+    PhaseYellow,
+    PhaseRed,
+    ClearanceGreen,
+    ClearanceYellow,
+    ClearanceRed,
+    Dwell,
+    DwellGreen,
+    DwellYellow,
+    DwellRed,
+}
+
+impl fmt::Display for Aspect {
+    ghost output = { λ a. Some (aspect_name a) };
+
+    #[tactic(auto, unfolding(crate::specs::Shown::aspect_name))]
+    fn fmt<W: fmt::Write>(&self, f: &mut fmt::Formatter<W>) -> fmt::Result {
+        match self {
+            Aspect::TrackGreen => write!(f, "track-green"),
+            Aspect::TrackYellow => write!(f, "track-yellow"),
+            Aspect::TrackRed => write!(f, "track-red"),
+            Aspect::PhaseGreen => write!(f, "phase-green"),
+            Aspect::PhaseYellow => write!(f, "phase-yellow"),
+            Aspect::PhaseRed => write!(f, "phase-red"),
+            Aspect::ClearanceGreen => write!(f, "clearance-green"),
+            Aspect::ClearanceYellow => write!(f, "clearance-yellow"),
+            Aspect::ClearanceRed => write!(f, "clearance-red"),
+            Aspect::Dwell => write!(f, "dwell"),
+            Aspect::DwellGreen => write!(f, "dwell-green"),
+            Aspect::DwellYellow => write!(f, "dwell-yellow"),
+            Aspect::DwellRed => write!(f, "dwell-red"),
+        }
+    }
+}
+
+// A phase's walker as it is shown. `Option` has no names to print.
+#[derive(Clone, Copy, PartialEq, Eq)]
+pub enum OnFoot {
+    Nobody,
+    Walk,
+    Clearance,
+}
+
+impl fmt::Display for OnFoot {
+    ghost output = { λ w. Some (on_foot_name w) };
+
+    #[tactic(auto, unfolding(crate::specs::Shown::on_foot_name))]
+    fn fmt<W: fmt::Write>(&self, f: &mut fmt::Formatter<W>) -> fmt::Result {
+        match self {
+            OnFoot::Nobody => write!(f, "-"),
+            OnFoot::Walk => write!(f, "walk"),
+            OnFoot::Clearance => write!(f, "clearance"),
+        }
+    }
+}
+
+// The phase is 0 for none.
+#[derive(Clone, Copy, PartialEq, Eq)]
 pub struct Shown {
-    pub stage: u32,
+    pub stage: Aspect,
     pub phase: u32,
-    pub walker: u32,
+    pub walker: OnFoot,
 }
 
 // A stage without a phase.
-fn plain(stage: u32) -> Shown
+fn plain(stage: Aspect) -> Shown
     ensures { result ≡ plain stage }
 {
     Shown {
-        stage: stage,
+        stage,
         phase: 0,
-        walker: 0,
+        walker: OnFoot::Nobody,
     }
 }
 
 // The track's yellow and red are also those that follow track clearance green.
-fn placed(place: Place, normal: u32, train: u32) -> Shown
+#[tactic(auto, unfolding(crate::specs::Shown::placed))]
+fn placed(place: Place, normal: Aspect, train: Aspect) -> Shown
     ensures { result ≡ placed normal train place }
 {
     match place {
@@ -39,36 +102,33 @@ fn placed(place: Place, normal: u32, train: u32) -> Shown
     }
 }
 
-fn lit(light: Light, green: u32, yellow: u32, red: u32) -> u32
-    ensures { result ≡ lit green yellow red light }
-{
-    match light {
-        Light::Green(_) => green,
-        Light::Yellow(_) => yellow,
-        Light::Red(_) => red,
-    }
-}
-
-// A phase's lights are shown by other numbers in dwell.
-fn lit_in(place: Place, light: Light) -> u32
+// A phase's lights are shown by other names in dwell.
+#[tactic(auto, unfolding(crate::specs::Shown::lit_in, crate::specs::Shown::lit))]
+fn lit_in(place: Place, light: Light) -> Aspect
     ensures { result ≡ lit_in light place }
 {
-    match place {
-        Place::Normal => lit(light, 3, 4, 5),
-        Place::Train => lit(light, 10, 11, 12),
+    match (place, light) {
+        (Place::Normal, Light::Green(_)) => Aspect::PhaseGreen,
+        (Place::Normal, Light::Yellow(_)) => Aspect::PhaseYellow,
+        (Place::Normal, Light::Red(_)) => Aspect::PhaseRed,
+        (Place::Train, Light::Green(_)) => Aspect::DwellGreen,
+        (Place::Train, Light::Yellow(_)) => Aspect::DwellYellow,
+        (Place::Train, Light::Red(_)) => Aspect::DwellRed,
     }
 }
 
-// None in mode 0, and once the clearance is over.
-fn walker_of(p: Phase, walker: Walker) -> u32
+// Nobody in mode 0, and once the clearance is over.
+#[tactic(auto, unfolding(units::specs::Numbers::pick, crate::specs::Shown::walker_of, crate::specs::Shown::on_foot))]
+fn walker_of(p: Phase, walker: Walker) -> OnFoot
     ensures { result ≡ walker_of p walker }
 {
     if p.mode == 0 {
-        return 0;
+        return OnFoot::Nobody;
     }
     match walker {
-        Walker::Walk(_) => 1,
-        Walker::Clearance(spent) => if spent < p.clearance as u64 { 2 } else { 0 },
+        Walker::Walk(_) => OnFoot::Walk,
+        Walker::Clearance(spent) if spent < u64::from(p.clearance) => OnFoot::Clearance,
+        Walker::Clearance(_) => OnFoot::Nobody,
     }
 }
 
@@ -77,27 +137,24 @@ fn phase_shows(sheet: Sheet, place: Place, phase: u32, light: Light, walker: Wal
 {
     Shown {
         stage: lit_in(place, light),
-        phase: phase,
+        phase,
         walker: walker_of(lookup::phase_of(sheet, phase), walker),
     }
 }
 
 // What a unit with this sheet shows in this stage.
+#[tactic(auto, unfolding(crate::specs::Shown::shown_of))]
 pub fn of(sheet: Sheet, stage: Stage) -> Shown
     ensures { result ≡ shown_of sheet stage }
 {
     match stage {
-        Stage::TrackGreen => plain(0),
-        Stage::TrackYellow {
+        Stage::TrackGreen => plain(Aspect::TrackGreen),
+        Stage::TrackYellow { place, .. } => placed(
             place,
-            then: _,
-            spent: _,
-        } => placed(place, 1, 7),
-        Stage::TrackRed {
-            place,
-            then: _,
-            spent: _,
-        } => placed(place, 2, 8),
+            Aspect::TrackYellow,
+            Aspect::ClearanceYellow,
+        ),
+        Stage::TrackRed { place, .. } => placed(place, Aspect::TrackRed, Aspect::ClearanceRed),
         Stage::Open {
             place,
             phase,
@@ -107,26 +164,18 @@ pub fn of(sheet: Sheet, stage: Stage) -> Shown
         Stage::Ending {
             place,
             phase,
-            then: _,
             light,
             walker,
+            ..
         } => phase_shows(sheet, place, phase, light, walker),
-        Stage::ClearanceGreen { spent: _ } => plain(6),
-        Stage::AllRed => plain(9),
+        Stage::ClearanceGreen { .. } => plain(Aspect::ClearanceGreen),
+        Stage::AllRed => plain(Aspect::Dwell),
     }
 }
 
 // Nothing that is shown differs.
 pub fn same(a: Shown, b: Shown) -> bool
-    ensures { result ≡ same_shown a b }
+    ensures { IsTrue result ↔ same_shown a b }
 {
-    if a.stage == b.stage {
-        if a.phase == b.phase {
-            a.walker == b.walker
-        } else {
-            false
-        }
-    } else {
-        false
-    }
+    a == b
 }

@@ -5,6 +5,7 @@
 // all red. The place: 0 normal operation, 1 a train's, where a phase is one of dwell. What follows: 0 track green, 1 the phase `next`, 2 track clearance
 // green, 3 dwell or track green as the call is then, 4 dwell's all red. The phase shown; its light, 0 green, 1 yellow, 2 red; the ticks spent in it, or
 // in the track's interval; its walker, 0 walk, 1 clearance, and the ticks of that. What a stage does not have is 0.
+// Numbers and not enums: they are what `lettofrisk_unit` hands to C, in `stage_numbers` and `times_of`.
 #[derive(Clone, Copy)]
 pub struct State {
     pub kind: u32,

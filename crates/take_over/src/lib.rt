@@ -8,21 +8,20 @@ use flow::Now;
 use running::Running;
 use unit::Unit;
 
+#[tactic(auto, unfolding(units::specs::Numbers::pick))]
 pub fn take_over(unit: Unit) -> Running
     ensures { result ≡ running_of unit }
 {
-    let sheet = unit.sheet;
-    let stage = unit.stage;
+    let Unit {
+        sheet,
+        stage,
+        count,
+    } = unit;
     let m = measured::measure(sheet);
-    let t = m.lengths;
-    let now = Now {
-        stage: stage,
-        count: unit.count,
-    };
+    let now = Now { stage, count };
     Running {
-        sheet: sheet,
-        fits: fitting::fits(m, sheet, now),
-        lengths: t,
-        now: now,
+        sheet,
+        lengths: fitting::fits(m, sheet, now).then_some(m.lengths),
+        now,
     }
 }

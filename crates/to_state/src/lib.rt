@@ -8,6 +8,7 @@ use phase::{Light, Walker};
 use stage::{Place, Stage, Then};
 use state::State;
 
+#[tactic(auto, unfolding(state::specs::State::place_number))]
 fn place_number(place: Place) -> u32
     ensures { result ≡ place_number place }
 {
@@ -17,6 +18,7 @@ fn place_number(place: Place) -> u32
     }
 }
 
+#[tactic(auto, unfolding(state::specs::State::then_number))]
 fn then_number(then: Then) -> u32
     ensures { result ≡ then_number then }
 {
@@ -29,18 +31,17 @@ fn then_number(then: Then) -> u32
     }
 }
 
+#[tactic(auto, unfolding(state::specs::State::next_number))]
 fn next_number(then: Then) -> u32
     ensures { result ≡ next_number then }
 {
     match then {
-        Then::ToTrack => 0,
-        Then::ToPhase(n) => n,
-        Then::ToClearance => 0,
-        Then::ToAllRed => 0,
-        Then::ToDwell => 0,
+        Then::ToPhase(next) => next,
+        Then::ToTrack | Then::ToClearance | Then::ToAllRed | Then::ToDwell => 0,
     }
 }
 
+#[tactic(auto, unfolding(state::specs::State::light_number))]
 fn light_number(light: Light) -> u32
     ensures { result ≡ light_number light }
 {
@@ -51,16 +52,16 @@ fn light_number(light: Light) -> u32
     }
 }
 
+#[tactic(auto, unfolding(state::specs::State::light_time))]
 fn light_time(light: Light) -> u64
     ensures { result ≡ light_time light }
 {
     match light {
-        Light::Green(spent) => spent,
-        Light::Yellow(spent) => spent,
-        Light::Red(spent) => spent,
+        Light::Green(spent) | Light::Yellow(spent) | Light::Red(spent) => spent,
     }
 }
 
+#[tactic(auto, unfolding(state::specs::State::walker_number))]
 fn walker_number(walker: Walker) -> u32
     ensures { result ≡ walker_number walker }
 {
@@ -70,12 +71,12 @@ fn walker_number(walker: Walker) -> u32
     }
 }
 
+#[tactic(auto, unfolding(state::specs::State::walker_time))]
 fn walker_time(walker: Walker) -> u64
     ensures { result ≡ walker_time walker }
 {
     match walker {
-        Walker::Walk(spent) => spent,
-        Walker::Clearance(spent) => spent,
+        Walker::Walk(spent) | Walker::Clearance(spent) => spent,
     }
 }
 
@@ -84,13 +85,13 @@ fn track(kind: u32, place: Place, then: Then, spent: u64) -> State
     ensures { result ≡ track kind place then spent }
 {
     State {
-        kind: kind,
+        kind,
         place: place_number(place),
         follows: then_number(then),
         next: next_number(then),
         phase: 0,
         light: 0,
-        spent: spent,
+        spent,
         walker: 0,
         walked: 0,
     }
@@ -100,11 +101,11 @@ fn in_phase(kind: u32, place: Place, phase: u32, then: Then, light: Light, walke
     ensures { result ≡ in_phase kind place phase then light walker }
 {
     State {
-        kind: kind,
+        kind,
         place: place_number(place),
         follows: then_number(then),
         next: next_number(then),
-        phase: phase,
+        phase,
         light: light_number(light),
         spent: light_time(light),
         walker: walker_number(walker),
@@ -112,7 +113,8 @@ fn in_phase(kind: u32, place: Place, phase: u32, then: Then, light: Light, walke
     }
 }
 
-// The numbers of a stage.
+// The numbers of a stage. Not a `From`: that would have to stand in `state`, and would only give this function a second name.
+#[tactic(auto, unfolding(state::specs::State::numbers_of))]
 pub fn numbers_of(stage: Stage) -> State
     ensures { result ≡ numbers_of stage }
 {

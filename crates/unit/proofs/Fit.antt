@@ -1,6 +1,6 @@
 -- What the test of refusal 20 says, and a tick of a unit that fits: by the lengths of its sheet, which it keeps. Assumes nothing.
 use mathlib.Core.Bool.{Bool, true}
-use mathlib.Core.Path.{◌≡◌, refl, sym, ◌∙◌}
+use mathlib.Core.Path.{◌≡◌, refl}
 use lib.Dec.{leb}
 use Rattle.units.specs.Numbers.{pick}
 use Rattle.units.proofs.Steps.{both_left, both_right}
@@ -13,18 +13,13 @@ use Rattle.flow.specs.declared.Now.{Now}
 use Rattle.flow.specs.Tick.{ticked}
 use Rattle.flow.specs.Promises.{Fits}
 use Rattle.flow.proofs.Fit as flow
-use Rattle.measured.specs.declared.Measured.{Measured}
 use Rattle.unit.specs.declared.Unit.{Unit}
-use Rattle.measured.specs.Measured.{lengths_of, accepted, measure_of}
+use Rattle.measured.specs.Measured.{lengths_of, accepted}
 use Rattle.measured.proofs.Named.{named_listed}
 use Rattle.fitting.specs.Fitting.{fits_by}
 use Rattle.unit.specs.Unit.{now_of, holding, fits, tick_of, fresh}
 
 -- ---- what the test says
--- whatever a worksheet worked out once gave the test
-pub tested : (m : Measured) (x : Now) (u : Unit) (r b : Bool) → m ≡ measure_of u.sheet → x ≡ now_of u → r ≡ fits_by m u.sheet x → r ≡ b → fits u ≡ b
-tested m x u r b e n f h = sym (λ i. fits_by (e i) u.sheet (n i)) ∙ sym f ∙ h
-
 pub fits_sheet : (u : Unit) → fits u ≡ true → accepted u.sheet ≡ true
 unfolding fits_by
 fits_sheet u e = both_left (accepted u.sheet) _ e

@@ -8,11 +8,10 @@ use native.Mathlib.Nat.{le_refl, le_trans}
 use native.Mathlib.Omega.{arith}
 use Rattle.units.specs.Numbers.{pick}
 use Rattle.units.proofs.Steps.{cases}
-use Rattle.sheet.specs.declared.Answer.{Answer}
-use Rattle.sheet.specs.declared.Answer.TheVariants.{Fine, Refused}
+use Rattle.sheet.specs.Refusals.{Answer, is_fine, answer_number, or_else, unless}
+use Rattle.std.specs.Prelude.{Ok, Err}
 use Rattle.sheet.specs.declared.Refusal.TheVariants.{UnitUnfit, LoadNotNow, IssueNotNewer}
 use Rattle.sheet.specs.declared.Sheet.{Sheet}
-use Rattle.sheet.specs.Refusals.{is_fine, answer_number, or_else, unless}
 use Rattle.sheet.proofs.Answers.{is_fine_lem}
 use Rattle.sheet.specs.Zero.{zero_sheet}
 use Rattle.lines.specs.Worksheet.{worksheet_of}
@@ -70,7 +69,7 @@ fits_kept u [] f = f
 fits_kept u (e ∷ es) f = fits_kept (answer_to u e).unit es ((after u e).fit f)
 
 -- ---- from a fresh start
-pub start_accepted : (s : Sheet) → (start_of s).answer ≡ Fine → accepted s ≡ true
+pub start_accepted : (s : Sheet) → (start_of s).answer ≡ Ok tt → accepted s ≡ true
 start_accepted s e = ap is_fine (sym (refused.restarted_answer (worksheet_of s).answer s (fresh zero_sheet)) ∙ e)
 
 pub start_fits : StartFits
@@ -91,8 +90,8 @@ place_number_lem false b e = omega arith
 
 neither : (a b : Answer) → (answer_number a ≡ 20 → ⊥) → (answer_number b ≡ 20 → ⊥) → answer_number (or_else a b) ≡ 20 → ⊥
 unfolding or_else
-neither Fine b f g e = g e
-neither (Refused r l) b f g e = f e
+neither (Ok _) b f g e = g e
+neither (Err d) b f g e = f e
 
 -- what a sheet offered is refused with
 abbrev pub NotSo : Sheet → Type 0

@@ -5,11 +5,10 @@ use mathlib.Core.Path.{◌≡◌, refl, sym, ap, ◌∙◌}
 use borrow.Author.Tests.{ltb-true, lt-ltb, le-ltb, eqb-true, eq-eqb}
 use Rattle.units.specs.Numbers.{pick}
 use Rattle.units.proofs.Steps.{split, never}
-use Rattle.sheet.specs.declared.Answer.{Answer}
-use Rattle.sheet.specs.declared.Answer.TheVariants.{Fine, Refused}
+use Rattle.sheet.specs.Refusals.{Answer, refused, is_fine, or_else, unless}
+use Rattle.std.specs.Prelude.{Ok}
 use Rattle.sheet.specs.declared.Refusal.TheVariants.{UnitUnfit, LoadNotNow, IssueNotNewer}
 use Rattle.sheet.specs.declared.Sheet.{Sheet}
-use Rattle.sheet.specs.Refusals.{is_fine, or_else, unless}
 use Rattle.sheet.proofs.Answers.{both_fine, fine_or, bad_or, passes, is_fine_lem}
 use Rattle.lines.specs.Worksheet.{worksheet_of}
 use Rattle.stage.specs.declared.Stage.{Stage}
@@ -33,7 +32,7 @@ at_rest (ClearanceGreen k) count e = never e
 at_rest AllRed count e = never e
 
 module _ (u : Unit) (s : Sheet) where
-  pub loadable : load_answer u s ≡ Fine → Loadable u s
+  pub loadable : load_answer u s ≡ Ok tt → Loadable u s
   unfolding load_answer place_answer
   loadable e =
       let a = both_fine (unless (fits u) UnitUnfit 0) (or_else (worksheet_of s).answer (place_answer u s)) e in
@@ -48,7 +47,7 @@ module _ (u : Unit) (s : Sheet) where
         issue = ltb-true u.sheet.issue s.issue (passes (newer u.sheet.issue s.issue) IssueNotNewer 0 d.1);
       }
 
-  pub taken : Loadable u s → load_answer u s ≡ Fine
+  pub taken : Loadable u s → load_answer u s ≡ Ok tt
   unfolding load_answer place_answer resting or_else unless
   taken l =
       rw l.unit
@@ -80,7 +79,7 @@ module _ (u : Unit) (s : Sheet) where
   answered : (a : Answer) → load_answer u s ≡ a → reply a
   answered a e = restarted_answer (load_answer u s) s u ∙ e
 
-  unfit : fits u ≡ false → load_answer u s ≡ Refused UnitUnfit 0
+  unfit : fits u ≡ false → load_answer u s ≡ refused UnitUnfit 0
   unfolding load_answer or_else unless
   unfit f = rw f refl
 
@@ -94,11 +93,11 @@ module _ (u : Unit) (s : Sheet) where
   place : fits u ≡ true → accepted s ≡ true → load_answer u s ≡ place_answer u s
   place f a = own_or_place f ∙ fine_or (worksheet_of s).answer (place_answer u s) a
 
-  elsewhere : resting u.stage u.count ≡ false → place_answer u s ≡ Refused LoadNotNow 0
+  elsewhere : resting u.stage u.count ≡ false → place_answer u s ≡ refused LoadNotNow 0
   unfolding place_answer or_else unless
   elsewhere r = rw r refl
 
-  old : resting u.stage u.count ≡ true → s.issue ≤ u.sheet.issue → place_answer u s ≡ Refused IssueNotNewer 0
+  old : resting u.stage u.count ≡ true → s.issue ≤ u.sheet.issue → place_answer u s ≡ refused IssueNotNewer 0
   unfolding place_answer or_else unless
   old r h = rw r (rw (le-ltb u.sheet.issue s.issue h) refl)
 

@@ -4,11 +4,9 @@ use mathlib.Core.Path.{◌≡◌, refl, sym, ap, ◌∙◌}
 use native.Mathlib.Omega.{arith}
 use Rattle.units.specs.Numbers.{pick}
 use Rattle.units.proofs.Steps.{cases}
-use Rattle.sheet.specs.declared.Answer.{Answer}
-use Rattle.sheet.specs.declared.Answer.TheVariants.{Refused}
+use Rattle.sheet.specs.Refusals.{Answer, refused, is_fine, answer_number, answer_line, unless}
 use Rattle.sheet.specs.declared.Refusal.TheVariants.{CommandNotAllowed, UnitUnfit}
 use Rattle.sheet.specs.declared.Sheet.{Sheet}
-use Rattle.sheet.specs.Refusals.{is_fine, answer_number, answer_line, unless}
 use Rattle.sheet.specs.Zero.{zero_sheet}
 use Rattle.stage.specs.declared.Command.{Command}
 use Rattle.stage.specs.declared.Command.TheVariants.{None}
@@ -44,7 +42,7 @@ module _ (u : Unit) (c : Command) (call : Bool) where
 
   -- the tick with a command, where the unit fits or not
   abbrev answers : Command → Bool → Reply
-  answers d b = pick b (replied u.sheet (next d)) (record { unit = u; answer = Refused UnitUnfit 0 })
+  answers d b = pick b (replied u.sheet (next d)) (record { unit = u; answer = refused UnitUnfit 0 })
 
   as_none : (b : Bool) → answer_number (answers c b).answer ≡ 23 → (answers c b).unit ≡ (answers None b).unit
   unfolding pick

@@ -1,9 +1,8 @@
 -- What is promised of the unit. The proofs are in proofs/.
-use Rattle.std.specs.Prelude.{◌≤◌, ◌<◌, Bool, true, false, List, ◌≡◌}
-use Rattle.sheet.specs.declared.Answer.TheVariants.{Fine, Refused}
+use Rattle.std.specs.Prelude.{◌≤◌, ◌<◌, Bool, true, false, List, ◌≡◌, Ok}
+use Rattle.sheet.specs.Refusals.{refused, is_fine, answer_number, answer_line}
 use Rattle.sheet.specs.declared.Refusal.TheVariants.{UnitUnfit, LoadNotNow, IssueNotNewer}
 use Rattle.sheet.specs.declared.Sheet.{Sheet}
-use Rattle.sheet.specs.Refusals.{is_fine, answer_number, answer_line}
 use Rattle.sheet.specs.Zero.{zero_sheet}
 use Rattle.lines.specs.Worksheet.{worksheet_of}
 use Rattle.stage.specs.declared.Command.{Command}
@@ -40,18 +39,18 @@ pub record Loadable (u : Unit) (s : Sheet) : Type 0 where
   pub issue : u.sheet.issue < s.issue
 
 abbrev pub LoadNeeds : Type 0
-LoadNeeds = (u : Unit) (s : Sheet) → (load_of u s).answer ≡ Fine → Loadable u s
+LoadNeeds = (u : Unit) (s : Sheet) → (load_of u s).answer ≡ Ok tt → Loadable u s
 
 abbrev pub LoadTakes : Type 0
-LoadTakes = (u : Unit) (s : Sheet) → Loadable u s → load_of u s ≡ record { unit = fresh s; answer = Fine }
+LoadTakes = (u : Unit) (s : Sheet) → Loadable u s → load_of u s ≡ record { unit = fresh s; answer = Ok tt }
 
 -- and the refusal where it is not taken: "20 before all others, 21 before 22", and the sheet's own between
 pub record FirstRefusal (u : Unit) (s : Sheet) : Type 0 where
-  pub unfit : fits u ≡ false → (load_of u s).answer ≡ Refused UnitUnfit 0
+  pub unfit : fits u ≡ false → (load_of u s).answer ≡ refused UnitUnfit 0
   pub own : fits u ≡ true → accepted s ≡ false → (load_of u s).answer ≡ (worksheet_of s).answer
-  pub elsewhere : fits u ≡ true → accepted s ≡ true → (u.stage ≡ TrackGreen → u.count ≡ 0 → ⊥) → (load_of u s).answer ≡ Refused LoadNotNow 0
+  pub elsewhere : fits u ≡ true → accepted s ≡ true → (u.stage ≡ TrackGreen → u.count ≡ 0 → ⊥) → (load_of u s).answer ≡ refused LoadNotNow 0
   pub old : fits u ≡ true → accepted s ≡ true → u.stage ≡ TrackGreen → u.count ≡ 0 → s.issue ≤ u.sheet.issue
-      → (load_of u s).answer ≡ Refused IssueNotNewer 0
+      → (load_of u s).answer ≡ refused IssueNotNewer 0
 
 abbrev pub LoadOrder : Type 0
 LoadOrder = (u : Unit) (s : Sheet) → FirstRefusal u s
@@ -67,4 +66,4 @@ FitsKept = (u : Unit) (es : List Event) → fits u ≡ true → fits (run u es) 
 
 -- and so does one from a fresh start
 abbrev pub StartFits : Type 0
-StartFits = (s : Sheet) → (start_of s).answer ≡ Fine → fits (start_of s).unit ≡ true
+StartFits = (s : Sheet) → (start_of s).answer ≡ Ok tt → fits (start_of s).unit ≡ true

@@ -1,11 +1,9 @@
 -- A tick, the loader and a start.
 use Rattle.std.specs.Prelude.{Bool}
 use Rattle.units.specs.Numbers.{pick}
-use Rattle.sheet.specs.declared.Answer.{Answer}
-use Rattle.sheet.specs.declared.Answer.TheVariants.{Refused}
+use Rattle.sheet.specs.Refusals.{Answer, refused, is_fine, unless}
 use Rattle.sheet.specs.declared.Refusal.TheVariants.{UnitUnfit, CommandNotAllowed}
 use Rattle.sheet.specs.declared.Sheet.{Sheet}
-use Rattle.sheet.specs.Refusals.{is_fine, unless}
 use Rattle.sheet.specs.Zero.{zero_sheet}
 use Rattle.lines.specs.Worksheet.{worksheet_of}
 use Rattle.stage.specs.declared.Command.{Command}
@@ -39,7 +37,7 @@ replied s k = record { unit = holding s k.now; answer = unless k.allowed Command
 -- "After 20 .. the unit is unchanged"
 unfoldable pub tick_of : Unit → Command → Bool → Reply
 tick_of u c call =
-    pick (fits u) (replied u.sheet (ticked (lengths_of u.sheet) u.sheet (now_of u) c call)) (record { unit = u; answer = Refused UnitUnfit 0 })
+    pick (fits u) (replied u.sheet (ticked (lengths_of u.sheet) u.sheet (now_of u) c call)) (record { unit = u; answer = refused UnitUnfit 0 })
 
 -- ---- a start: "track green with all times and the call count at 0"
 abbrev pub fresh : Sheet → Unit

@@ -9,6 +9,7 @@ use stage::Stage;
 
 mod sequence;
 
+// The stage and the count stand here by themselves, and not in a `Now` of `flow`: what is promised of a unit names `u.stage` and `u.count`.
 #[derive(Clone, Copy)]
 pub struct Unit {
     pub sheet: Sheet,
@@ -16,7 +17,8 @@ pub struct Unit {
     pub count: u64,
 }
 
-// What a start, a tick and a load reply: the unit from then on, and the answer.
+// What a start, a tick and a load reply: the unit from then on, and the answer. Not a `Result`: a refusal has its unit too, by `RefusedStart`, `AsWithNone`
+// and `Unchanged`.
 #[derive(Clone, Copy)]
 pub struct Reply {
     pub unit: Unit,
@@ -27,26 +29,23 @@ fn fresh(sheet: Sheet) -> Unit
     ensures { result ≡ fresh sheet }
 {
     Unit {
-        sheet: sheet,
+        sheet,
         stage: Stage::TrackGreen,
         count: 0,
     }
 }
 
 // A sheet that is taken restarts the unit; one that is refused leaves the unit that there is.
+#[tactic(auto, unfolding(units::specs::Numbers::pick, crate::specs::Unit::restarted))]
 fn restarted(answer: Answer, sheet: Sheet, kept: Unit) -> Reply
     ensures { result ≡ restarted answer sheet kept }
 {
-    if answers::is_fine(answer) {
-        Reply {
-            unit: fresh(sheet),
-            answer: answer,
-        }
-    } else {
-        Reply {
-            unit: kept,
-            answer: answer,
-        }
+    Reply {
+        unit: match answer {
+            Ok(()) => fresh(sheet),
+            Err(_) => kept,
+        },
+        answer,
     }
 }
 
@@ -54,8 +53,6 @@ fn restarted(answer: Answer, sheet: Sheet, kept: Unit) -> Reply
 pub fn start(sheet: Sheet) -> Reply
     ensures { result ≡ start_of sheet }
 {
-    let m = measured::measure(sheet);
-    let answer = m.answer;
-    let zero = zeros::zero_sheet();
-    restarted(answer, sheet, fresh(zero))
+    let answer = measured::measure(sheet).answer;
+    restarted(answer, sheet, fresh(zeros::zero_sheet()))
 }

@@ -1,0 +1,8 @@
+-- `exported_unit::UnitTakesEvents::load` meets its contract, by what it calls. Assumes nothing.
+use mathlib.Core.Path.{refl}
+use Rattle.unit.specs.Runs.{answer_to}
+use Rattle.exported_unit.proofs.UnitTakesEvents.load.Goals as goal
+
+pub returns : goal.returns
+unfolding answer_to
+returns c = rw c.load-reply.ensures refl

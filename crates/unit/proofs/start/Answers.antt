@@ -1,6 +1,0 @@
--- `unit::start` meets its contract: a composition of calls, each replaced by what it ensures. Assumes nothing.
-use mathlib.Core.Path.{refl}
-use Rattle.unit.proofs.start.Goals as goal
-
-pub returns : goal.returns
-returns c = rw (c.restarted.ensures, c.fresh.ensures, c.zero_sheet-zero.ensures, c.measure-m.ensures) refl
