@@ -1,23 +1,16 @@
 // A site sheet in an older form, or in today's, on standard input; the same sheet in today's form, or its refusal, on standard output.
 #![tactic(auto)]
 
-use sheet::Answer;
+use numbering::Numbered;
 use std::io;
-
-fn print_refusal(rt: &impl Print, answer: Answer) -> io::Result<()> {
-    print!(rt; "refused={}", numbering::answer_number(answer))?;
-    println!(rt; ",{}", numbering::answer_line(answer))
-}
 
 // The bytes lent are as many as the longest text there can be and one more, so that 11 is not given.
 fn report(rt: &impl Print, text: &[u8]) -> io::Result<()> {
     let mut out = [0u8; longest::BUFFER];
     let written = converter::convert(text, &mut out);
-    let answer = written.answer;
-    if answers::is_fine(answer) {
-        rt.write_all(&out[..written.length])
-    } else {
-        print_refusal(rt, answer)
+    match written.answer {
+        Ok(()) => rt.write_all(&out[..written.length]),
+        refused => println!(rt; "refused={}", Numbered(refused)),
     }
 }
 

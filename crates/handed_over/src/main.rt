@@ -2,67 +2,53 @@
 // the numbers of `cases`; on standard output the unit as it was handed over, and the reply and the whole unit after a tick, and after a load.
 #![tactic(auto)]
 
+use intake::FromLines;
+use rows::NUMBERS;
 use std::io;
 
 mod cases;
 mod shown;
 
-// A byte more of the number of that count: a comma begins the next one.
-fn taken(numbers: &mut [u32; rows::NUMBERS], count: usize, byte: u8) -> usize {
-    if byte == b',' {
-        return count.wrapping_add(1);
-    }
-    if count < rows::NUMBERS {
-        let tens = numbers[count];
-        if tens < 100000000 {
-            let digit = (byte as u32).wrapping_sub(48);
-            numbers[count] = (tens * 10).wrapping_add(digit);
+// A grade among the numbers of a sheet has seven digits, one more than a number of a text; digits past the ninth are left out.
+fn number(bytes: &[u8]) -> u32 {
+    bytes.iter().fold(0, |n: u32, byte| {
+        if n < 100000000 {
+            (n * 10).wrapping_add(u32::from(*byte).wrapping_sub(48))
+        } else {
+            n
         }
-    }
-    count
+    })
 }
 
-// The numbers of a line, from the first of them on. A grade among the numbers of a sheet has seven digits, one more than a number of a text.
-fn numbers(s: &[u8], from: usize) -> [u32; rows::NUMBERS] {
-    let mut numbers = [0u32; rows::NUMBERS];
-    let mut count: usize = 0;
-    let mut i = from;
-    while i < s.len() {
-        if s[i] == b'\n' {
-            return numbers;
-        }
-        count = taken(&mut numbers, count, s[i]);
-        i += 1;
+// The numbers of a line, a comma between two; 0 where there are no more.
+fn numbers(line: &[u8]) -> [u32; NUMBERS] {
+    let mut numbers = [0; NUMBERS];
+    for (n, bytes) in numbers.iter_mut().zip(line.split(|byte| *byte == b',')) {
+        *n = number(bytes);
     }
     numbers
 }
 
-// The place after the next byte of that kind.
-fn after(s: &[u8], at: usize, byte: u8) -> usize {
-    scan::find(s, at, byte).wrapping_add(1)
+// The first line, without its end, and what comes after it.
+fn line(s: &[u8]) -> (&[u8], &[u8]) {
+    intake::split_once(s, b'\n').unwrap_or((s, b""))
 }
 
-// The case at a place, its name first.
-fn line(rt: &impl Print, site: &[u32; rows::NUMBERS], s: &[u8], at: usize) -> io::Result<()> {
-    let first = after(s, at, b':');
-    if at <= first {
-        if first <= s.len() {
-            shown::write(rt, &s[at..first])?;
-            cases::case(rt, site, &numbers(s, first))?;
-        }
+// The case whose name begins the bytes.
+fn case(rt: &impl Print, site: &[u32; NUMBERS], s: &[u8]) -> io::Result<()> {
+    if let Some((name, rest)) = intake::split_once(s, b':') {
+        rt.write_all(name)?;
+        print!(rt; ":")?;
+        cases::case(rt, site, &numbers(line(rest).0))?;
     }
     Ok(())
 }
 
-// No more lines than bytes; past the last one there is nothing to show.
 fn all(rt: &impl Print, s: &[u8]) -> io::Result<()> {
-    let site = numbers(s, 0);
-    let mut at = after(s, 0, b'\n');
-    let mut i: usize = 0;
-    while i < s.len() {
-        line(rt, &site, s, at)?;
-        at = after(s, at, b'\n');
-        i += 1;
+    let (site, cases) = line(s);
+    let site = numbers(site);
+    for rest in FromLines(cases) {
+        case(rt, &site, rest)?;
     }
     Ok(())
 }

@@ -1,21 +1,21 @@
 // The bench: a site sheet on standard input, a line `run`, then one event a line; on standard output what the unit shows.
 #![tactic(auto)]
 
-use running::Running;
+use marks::Marked;
+use orders::Order;
+use running::{Answered, Running};
 use sheet::Answer;
-use stage::Command;
 use std::io;
-use text::Reading;
 
 mod marks;
 mod prints;
 
-// A running unit, the ticks it has run, and the place of the next event and how many lines stand before it.
+// A running unit, the ticks it has run, the events that are left and how many lines stand before them.
 #[derive(Clone, Copy)]
-struct Run {
+struct Run<'a> {
     unit: Running,
     tick: u64,
-    at: usize,
+    left: &'a [u8],
     line: usize,
 }
 
@@ -27,138 +27,94 @@ fn print_tick(
     after: Running,
     answer: Answer,
 ) -> io::Result<()> {
-    let was = before.now;
-    let is = after.now;
-    let left = was.stage;
-    let entered = is.stage;
-    if shown::same(
-        shown::of(before.sheet, left),
-        shown::of(after.sheet, entered),
-    ) {
-        if answers::is_fine(answer) {
-            return Ok(());
-        }
+    let was = shown::of(before.sheet, before.now.stage);
+    let is = shown::of(after.sheet, after.now.stage);
+    if was == is && answer.is_ok() {
+        return Ok(());
     }
     prints::state(rt, tick, after, answer)
 }
 
 // As many ticks as the order has, each with its command and its call.
-fn ticks(
-    rt: &impl Print,
-    first: Running,
-    from: u64,
-    command: Command,
-    call: bool,
-    count: u32,
-) -> io::Result<Running> {
+fn ticks(rt: &impl Print, first: Running, from: u64, order: Order) -> io::Result<Running> {
     let mut unit = first;
     let mut tick = from;
-    let mut i: u32 = 0;
-    while i < count {
-        let reply = running_tick::tick(unit, command, call);
-        let next = reply.running;
-        let answer = reply.answer;
+    for _ in 0..order.count {
+        let Answered { running, answer } = running_tick::tick(unit, order.command, order.call);
         tick = tick.wrapping_add(1);
-        print_tick(rt, tick, unit, next, answer)?;
-        unit = next;
-        i += 1;
+        print_tick(rt, tick, unit, running, answer)?;
+        unit = running;
     }
     Ok(unit)
 }
 
-// The sheet that the bytes from `start` up to `end` are.
-fn read(s: &[u8], start: usize, end: usize) -> Reading {
-    if start <= end {
-        if end <= s.len() {
-            return reader::read(&s[start..end]);
-        }
-    }
-    reader::read(b"")
-}
-
 // A text offered to the loader: a refusal of the reading is the reply. Its sheet is then all zeros, which the loader refuses too.
-fn load(rt: &impl Print, unit: Running, tick: u64, reading: Reading) -> io::Result<Running> {
-    let reply = running_start::load(unit, reading.sheet);
-    let after = reply.running;
-    let read = reading.answer;
-    let loaded = reply.answer;
-    prints::state(rt, tick, after, answers::or_else(read, loaded))?;
-    Ok(after)
+fn load(rt: &impl Print, unit: Running, tick: u64, text: &[u8]) -> io::Result<Running> {
+    let reading = reader::read(text);
+    let Answered { running, answer } = running_start::load(unit, reading.sheet);
+    prints::state(rt, tick, running, reading.answer.and(answer))?;
+    Ok(running)
 }
 
-// An event, and the place of the next one; a malformed one is the last. A load's text ends with a line `done`, and without one is malformed.
-fn event(rt: &impl Print, s: &[u8], run: Run) -> io::Result<Run> {
-    let unit = run.unit;
-    let start = orders::past(s, run.at, b"load\n");
-    if start <= s.len() {
-        let done = marks::find_line(s, run.at, b"done\n");
-        if done.next <= s.len() {
-            return Ok(Run {
-                unit: load(rt, unit, run.tick, read(s, start, done.start))?,
-                tick: run.tick,
-                at: done.next,
-                line: run.line.wrapping_add(done.lines),
-            });
-        }
-    }
-    let order = orders::read(s, run.at);
-    let command = order.command;
+// An event, and what is left after it: nothing after a malformed one. A load's text ends with a line `done`, and without one is malformed.
+fn event<'a>(rt: &impl Print, run: Run<'a>) -> io::Result<Run<'a>> {
     let line = run.line.wrapping_add(1);
-    let mut count = order.count;
-    if s.len() < order.next {
-        prints::refusal(rt, 1, line as u64)?;
-        count = 0;
+    if let Some(text) = run.left.strip_prefix(b"load\n")
+        && let Some(done) = marks::find_line(text, b"done\n")
+    {
+        return Ok(Run {
+            unit: load(rt, run.unit, run.tick, done.before)?,
+            tick: run.tick,
+            left: done.after,
+            line: line.wrapping_add(done.lines),
+        });
     }
-    Ok(Run {
-        unit: ticks(rt, unit, run.tick, command, order.call, count)?,
-        tick: run.tick.wrapping_add(count as u64),
-        at: order.next,
-        line: line,
-    })
+    if let Some(order) = orders::read(run.left, 0)
+        && let Some(left) = run.left.get(order.next..)
+    {
+        return Ok(Run {
+            unit: ticks(rt, run.unit, run.tick, order)?,
+            tick: run.tick.wrapping_add(u64::from(order.count)),
+            left,
+            line,
+        });
+    }
+    prints::malformed(rt, line)?;
+    Ok(Run { left: b"", ..run })
 }
 
-// The events from a place on: no more of them than the text has bytes.
-fn events(rt: &impl Print, s: &[u8], first: Run) -> io::Result<()> {
+// No more events than bytes.
+fn events(rt: &impl Print, first: Run) -> io::Result<()> {
     let mut run = first;
-    let mut left: usize = s.len();
-    while 0 < left {
-        if s.len() <= run.at {
-            return Ok(());
+    for _ in first.left {
+        if run.left.is_empty() {
+            break;
         }
-        let next = event(rt, s, run)?;
-        run = next;
-        left -= 1;
+        run = event(rt, run)?;
     }
     Ok(())
 }
 
 // The sheet's text up to a line `run`, then the events; without that line it is a sheet alone.
 fn bench(rt: &impl Print, s: &[u8]) -> io::Result<()> {
-    let run = marks::find_line(s, 0, b"run\n");
-    let reading = read(s, 0, run.start);
-    let answer = reading.answer;
-    if answers::is_fine(answer) {
-        let started = running_start::start(reading.sheet);
-        let unit = started.running;
-        let fine = started.answer;
-        prints::state(rt, 0, unit, fine)?;
-        events(
-            rt,
-            s,
-            Run {
-                unit: unit,
-                tick: 0,
-                at: run.next,
-                line: run.lines,
-            },
-        )
-    } else {
-        prints::refusal(
-            rt,
-            numbering::answer_number(answer) as u64,
-            numbering::answer_line(answer) as u64,
-        )
+    let parts = marks::find_line(s, b"run\n").unwrap_or(Marked {
+        before: s,
+        after: b"",
+        lines: 0,
+    });
+    let reading = reader::read(parts.before);
+    if reading.answer.is_err() {
+        return prints::refusal_of(rt, reading.answer);
     }
+    let Answered { running, answer } = running_start::start(reading.sheet);
+    prints::state(rt, 0, running, answer)?;
+    let first = Run {
+        unit: running,
+        tick: 0,
+        left: parts.after,
+        line: parts.lines,
+    };
+    events(rt, first)
 }
 
 // A text has at most 65536 bytes: where that many came, one more is asked for.
@@ -167,10 +123,8 @@ fn main(rt: HostRuntime) -> io::Result<()> {
     let mut beyond = [0u8; 1];
     let mut reader = rt.reader();
     let n = intake::read_full(&mut reader, &mut buffer);
-    if n == 65536 {
-        if intake::read_full(&mut reader, &mut beyond) == 1 {
-            return prints::refusal(&rt, 1, 0);
-        }
+    if n == 65536 && intake::read_full(&mut reader, &mut beyond) == 1 {
+        return prints::malformed(&rt, 0);
     }
     bench(&rt, &buffer[..n])
 }

@@ -1,34 +1,23 @@
 // The lines that part a run: `run` before the events, `done` after the text of a load.
-const NONE: usize = 18446744073709551615;
+use intake::FromLines;
 
-// A line that is a word alone: its place, the place past it, and how many lines there are up to it and with it. Without one the text ends there, and
-// nothing stands past it.
+// A line that is a word alone: what stands before it, what after it, and how many lines there are up to it and with it.
 #[derive(Clone, Copy)]
-pub struct Marked {
-    pub start: usize,
-    pub next: usize,
-    pub lines: usize,
+pub(crate) struct Marked<'a> {
+    pub(crate) before: &'a [u8],
+    pub(crate) after: &'a [u8],
+    pub(crate) lines: usize,
 }
 
-// No more lines than the text has bytes.
-pub(crate) fn find_line(s: &[u8], from: usize, word: &[u8]) -> Marked {
-    let mut at = from;
-    let mut lines: usize = 0;
-    while lines < s.len() {
-        lines += 1;
-        let next = orders::past(s, at, word);
-        if next <= s.len() {
-            return Marked {
-                start: at,
-                next: next,
-                lines: lines,
-            };
+pub(crate) fn find_line<'a>(s: &'a [u8], word: &[u8]) -> Option<Marked<'a>> {
+    for (i, rest) in FromLines(s).enumerate() {
+        if let Some(after) = rest.strip_prefix(word) {
+            return Some(Marked {
+                before: &s[..s.len().saturating_sub(rest.len())],
+                after,
+                lines: i.wrapping_add(1),
+            });
         }
-        at = scan::find(s, at, b'\n').wrapping_add(1);
     }
-    Marked {
-        start: s.len(),
-        next: NONE,
-        lines: lines,
-    }
+    None
 }

@@ -1,5 +1,5 @@
 // What is printed of a sheet: a line with the answer of the worksheet, and one with the writer's and what became of the lent bytes.
-use lines::Lines;
+use numbering::Numbered;
 use sheet::{Answer, Sheet};
 use std::io;
 
@@ -10,51 +10,25 @@ pub(crate) const TEXT: [u8; 300] =
 // What every lent byte is before.
 const BEFORE: u8 = b'.';
 
-fn print_answer(rt: &impl Print, name: &[u8], by: &[u8], answer: Answer) -> io::Result<()> {
+fn print_answer(rt: &impl Print, name: &[u8], by: &str, answer: Answer) -> io::Result<()> {
     rt.write_all(name)?;
-    rt.write_all(by)?;
-    print!(rt; "{}", numbering::answer_number(answer))?;
-    print!(rt; ",{}", numbering::answer_line(answer))
-}
-
-fn all_zero(lines: Lines) -> bool {
-    let all = listing::in_order(lines);
-    let mut i: usize = 0;
-    while i < 61 {
-        if all[i] != 0 {
-            return false;
-        }
-        i += 1;
-    }
-    true
-}
-
-fn same(out: &[u8; 300], expected: &[u8; 300]) -> bool {
-    let mut i: usize = 0;
-    while i < 300 {
-        if out[i] != expected[i] {
-            return false;
-        }
-        i += 1;
-    }
-    true
+    print!(rt; ": {by} {}", Numbered(answer))
 }
 
 fn print_bytes(rt: &impl Print, out: &[u8; 300]) -> io::Result<()> {
-    if same(out, &[BEFORE; 300]) {
-        return println!(rt; ", no byte changed");
+    if *out == [BEFORE; 300] {
+        println!(rt; ", no byte changed")
+    } else if *out == TEXT {
+        println!(rt; ", the text and no byte beyond")
+    } else {
+        println!(rt; ", other bytes")
     }
-    if same(out, &TEXT) {
-        return println!(rt; ", the text and no byte beyond");
-    }
-    println!(rt; ", other bytes")
 }
 
 pub(crate) fn worked(rt: &impl Print, name: &[u8], sheet: Sheet) -> io::Result<()> {
     let worked = form::worksheet(sheet);
-    let answer = worked.answer;
-    print_answer(rt, name, b" worksheet ", answer)?;
-    if all_zero(worked.lines) {
+    print_answer(rt, name, "worksheet", worked.answer)?;
+    if listing::in_order(worked.lines).iter().all(|n| *n == 0) {
         println!(rt; ", zeros")
     } else {
         println!(rt; ", lines")
@@ -64,11 +38,9 @@ pub(crate) fn worked(rt: &impl Print, name: &[u8], sheet: Sheet) -> io::Result<(
 // The writer is lent the first `room` of 300 bytes.
 pub(crate) fn written(rt: &impl Print, name: &[u8], sheet: Sheet, room: u32) -> io::Result<()> {
     let mut out = [BEFORE; 300];
-    let lent = room as usize;
-    if lent <= 300 {
-        let reply = writer::write(sheet, &mut out[0..lent]);
-        let answer = reply.answer;
-        print_answer(rt, name, b" writer ", answer)?;
+    if let Some(lent) = out.get_mut(..room as usize) {
+        let reply = writer::write(sheet, lent);
+        print_answer(rt, name, "writer", reply.answer)?;
         print!(rt; ", length {}", reply.length)?;
         print_bytes(rt, &out)?;
     }
@@ -79,8 +51,8 @@ pub(crate) fn written(rt: &impl Print, name: &[u8], sheet: Sheet, room: u32) -> 
 pub(crate) fn text(rt: &impl Print, sheet: Sheet) -> io::Result<()> {
     let mut out = [BEFORE; 300];
     let length = writer::write(sheet, &mut out).length;
-    if length <= 300 {
-        rt.write_all(&out[0..length])?;
+    if let Some(text) = out.get(..length) {
+        rt.write_all(text)?;
     }
     Ok(())
 }
