@@ -23,6 +23,7 @@ fn all(rt: &impl Print, s: &[u8]) -> io::Result<()> {
 }
 
 fn main(rt: HostRuntime) -> io::Result<()> {
+    // A buffer with its count, since memory is fixed: what was read is a slice from here on.
     let mut buffer = [0u8; 65536];
     let n = intake::read_full(&mut rt.reader(), &mut buffer);
     all(&rt, &buffer[..n])

@@ -1,9 +1,10 @@
 // Standard input, as far as a buffer goes, and how the programs part it: by a byte, into texts or by its lines.
 #![tactic(auto)]
 
-ghost use Rattle.std.specs.Prelude.{◌≤◌, ◌≡◌, ◌+◌, eqb, length, take, drop, position, MatchOption, None};
+ghost use Rattle.std.specs.Prelude.{◌≤◌, ◌≡◌, ◌==◌, ◌+◌, length, take, drop, position, MatchOption, None};
 ghost use Rattle.std.specs.List.{position_or_len};
 
+use scan::place;
 use std::io::Read;
 
 // Reads until the buffer is full, the input ends or a read fails, and returns how many bytes it put at the start of the buffer. A read that a signal
@@ -23,17 +24,10 @@ pub fn read_full<R: Read>(reader: &mut R, buffer: &mut [u8]) -> usize
     done
 }
 
-// The first such byte's place.
-fn place(s: &[u8], byte: u8) -> Option<usize>
-    ensures { result ≡ position (λ b. eqb b byte) s.now }
-{
-    s.iter().position(|b| *b == byte)
-}
-
 // What stands before the first such byte, and what from it on.
 fn before(s: &[u8], byte: u8) -> (&[u8], &[u8])
-    ensures front { result.0.now ≡ take (position_or_len (λ b. eqb b byte) s.now) s.now }
-    ensures back { result.1.now ≡ drop (position_or_len (λ b. eqb b byte) s.now) s.now }
+    ensures front { result.0.now ≡ take (position_or_len (λ b. b == byte) s.now) s.now }
+    ensures back { result.1.now ≡ drop (position_or_len (λ b. b == byte) s.now) s.now }
 {
     let n = place(s, byte).unwrap_or(s.len());
     s.split_at(n)
@@ -41,7 +35,7 @@ fn before(s: &[u8], byte: u8) -> (&[u8], &[u8])
 
 // What stands before the first such byte, and what after it; None where there is no such byte.
 pub fn split_once(s: &[u8], byte: u8) -> Option<(&[u8], &[u8])>
-    ensures { MatchOption result (position (λ b. eqb b byte) s.now ≡ None) (λ p. (p.0.now ≡ take (position_or_len (λ b. eqb b byte) s.now) s.now) × (p.1.now ≡ drop (position_or_len (λ b. eqb b byte) s.now + 1) s.now)) }
+    ensures { MatchOption result (position (λ b. b == byte) s.now ≡ None) (λ p. (p.0.now ≡ take (position_or_len (λ b. b == byte) s.now) s.now) × (p.1.now ≡ drop (position_or_len (λ b. b == byte) s.now + 1) s.now)) }
 {
     let n = place(s, byte)?;
     Some((&s[..n], &s[n + 1..]))

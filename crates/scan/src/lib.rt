@@ -5,7 +5,8 @@ ghost use Rattle.std.specs.Prelude.{◌≡◌, ◌==◌};
 ghost use Rattle.std.specs.List.{position};
 ghost use Rattle.scan.specs.Find.{find_at};
 
-fn place(s: &[u8], byte: u8) -> Option<usize>
+// The first place of the byte; None where there is none.
+pub fn place(s: &[u8], byte: u8) -> Option<usize>
     ensures { result ≡ position (λ b. b == byte) s.now }
 {
     s.iter().position(|b| *b == byte)

@@ -38,10 +38,9 @@ fn print_tick(
 // As many ticks as the order has, each with its command and its call.
 fn ticks(rt: &impl Print, first: Running, from: u64, order: Order) -> io::Result<Running> {
     let mut unit = first;
-    let mut tick = from;
-    for _ in 0..order.count {
+    for i in 0..order.count {
         let Answered { running, answer } = running_tick::tick(unit, order.command, order.call);
-        tick = tick.wrapping_add(1);
+        let tick = from.wrapping_add(u64::from(i)).wrapping_add(1);
         print_tick(rt, tick, unit, running, answer)?;
         unit = running;
     }
@@ -119,6 +118,7 @@ fn bench(rt: &impl Print, s: &[u8]) -> io::Result<()> {
 
 // A text has at most 65536 bytes: where that many came, one more is asked for.
 fn main(rt: HostRuntime) -> io::Result<()> {
+    // A buffer with its count, since memory is fixed: what was read is a slice from here on.
     let mut buffer = [0u8; 65536];
     let mut beyond = [0u8; 1];
     let mut reader = rt.reader();

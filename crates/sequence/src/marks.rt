@@ -9,6 +9,7 @@ pub(crate) struct Marked<'a> {
     pub(crate) lines: usize,
 }
 
+// A `for`, and no `find_map`: that was tried, and the proof of its closure, which lends what it was lent, was not made.
 pub(crate) fn find_line<'a>(s: &'a [u8], word: &[u8]) -> Option<Marked<'a>> {
     for (i, rest) in FromLines(s).enumerate() {
         if let Some(after) = rest.strip_prefix(word) {

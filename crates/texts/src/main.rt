@@ -24,6 +24,7 @@ fn print_answer(rt: &impl Print, text: &[u8]) -> io::Result<()> {
     println!(rt)
 }
 
+// `converts` has the same walk. One for both would take what is done with a text as a closure, longer than these lines.
 fn all(rt: &impl Print, s: &[u8]) -> io::Result<()> {
     for (name, text) in Texts(s) {
         rt.write_all(name)?;
@@ -34,6 +35,7 @@ fn all(rt: &impl Print, s: &[u8]) -> io::Result<()> {
 }
 
 fn main(rt: HostRuntime) -> io::Result<()> {
+    // A buffer with its count, since memory is fixed: what was read is a slice from here on.
     let mut buffer = [0u8; 65536];
     let n = intake::read_full(&mut rt.reader(), &mut buffer);
     all(&rt, &buffer[..n])
