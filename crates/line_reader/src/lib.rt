@@ -13,6 +13,7 @@ ghost use Rattle.text.proofs.Past.{past_at};
 
 use rows::{Form, Key, NUMBERS, ROWS};
 use sheet::{Answer, Refusal, Refused};
+use text::Faulty;
 
 // What stands before number j of a line.
 fn mark(j: usize) -> &'static [u8]
@@ -135,12 +136,15 @@ fn fault(v: &[u32; NUMBERS], row: usize, number: u32, facts: Key, place: usize, 
 }
 
 // "1: a line is .. malformed".
-fn malformed(number: u32) -> Refused
-    ensures { result ≡ record { refusal = Malformed; line = number } }
+fn malformed(number: u32) -> Faulty
+    ensures { result ≡ record { refused = record { refusal = Malformed; line = number }; next = 0 } }
 {
-    Refused {
-        refusal: Refusal::Malformed,
-        line: number,
+    Faulty {
+        refused: Refused {
+            refusal: Refusal::Malformed,
+            line: number,
+        },
+        next: 0,
     }
 }
 
@@ -151,7 +155,7 @@ fn known(
     row: usize,
     number: u32,
     v: &mut [u32; NUMBERS],
-) -> Result<usize, Refused>
+) -> Result<usize, Faulty>
     requires { row < row_count }
     ensures { reached result v.new ≡ judged_at s.now at row number v.old }
 {
@@ -161,25 +165,27 @@ fn known(
     let Some(next) = line(s, at, facts, place, n, v) else {
         return Err(malformed(number));
     };
-    fault(v, row, number, facts, place, n)?;
-    Ok(next)
+    match fault(v, row, number, facts, place, n) {
+        Ok(()) => Ok(next),
+        Err(refused) => Err(Faulty { refused, next }),
+    }
 }
 
 // A row past the table has no key and no number: its line is a line feed. No reader asks for one.
-fn past(s: &[u8], at: usize, number: u32) -> Result<usize, Refused>
+fn past(s: &[u8], at: usize, number: u32) -> Result<usize, Faulty>
     ensures { (v : List ℕ) → reached result v ≡ past_at s.now at number v }
 {
     words::after(s, at, b"\n").ok_or(malformed(number))
 }
 
-// The line of a row at a place of the text with its fault, by its line number: the place past it. Its numbers are stored in the array lent.
+// The line of a row at a place of the text with its fault, by its line number: the place past it, beside a fault too. Its numbers are stored in the array lent.
 pub fn judged(
     s: &[u8],
     at: usize,
     row: usize,
     number: u32,
     v: &mut [u32; NUMBERS],
-) -> Result<usize, Refused>
+) -> Result<usize, Faulty>
     ensures { reached result v.new ≡ judged_at s.now at row number v.old }
 {
     if row < ROWS {

@@ -1,10 +1,11 @@
 -- The ticks of a run as lines: "`tick=CALL`", "`tick=CALL,NEXT`" and "`ticks=CALL,COUNT`". A place is an index of the text.
-use Rattle.std.specs.Prelude.{ℕ, List, [], ◌∷◌, Bool, Option, Some, None, leb, eqb}
+use Rattle.std.specs.Prelude.{ℕ, List, [], ◌∷◌, Bool, false, Option, Some, None, Result, Ok, Err, leb, eqb}
 use Rattle.units.specs.Numbers.{pick}
 use Rattle.figures.specs.declared.Figure.{Figure}
 use Rattle.figures.specs.Figures.{is, after_at, number_at, on_place, on_figure}
 use Rattle.stage.specs.declared.Command.TheVariants as commands
 use Rattle.stage.specs.declared.Command.{Command}
+use Rattle.orders.specs.declared.Malformed.{Malformed}
 use Rattle.orders.specs.declared.Order.{Order}
 use Rattle.orders.specs.declared.Two.{Two}
 
@@ -37,19 +38,24 @@ unfoldable pub two_at : List ℕ → ℕ → List ℕ → ℕ → ℕ → Option
 two_at s at w least most =
     on_figure (call_at s at w) (λ c p. on_figure (value_at s p comma least most) (λ v q. on_place (after_at s q newline) (λ t. two c v t) None) None) None
 
-abbrev pub order : Command → Bool → ℕ → ℕ → Option Order
-order command call count p = Some (record { command = command; call = call; count = count; next = p })
+abbrev pub order : Command → Bool → ℕ → ℕ → Result Order Malformed
+order command call count p = Ok (record { command = command; call = call; count = count; next = p })
 
-abbrev pub on_two : Option Two → (Two → Option Order) → Option Order → Option Order
+-- a line that is none of these, with its call, off where it has none
+abbrev pub malformed : Bool → Result Order Malformed
+malformed call = Err (record { call = call })
+
+abbrev pub on_two : Option Two → (Two → Result Order Malformed) → Result Order Malformed → Result Order Malformed
 on_two (Some t) f d = f t
 on_two None f d = d
 
 -- `tick=CALL`
-unfoldable pub alone_at : List ℕ → ℕ → Option Order
-alone_at s at = on_figure (call_at s at tick_word) (λ c p. on_place (after_at s p newline) (λ t. order commands.None (eqb c 1) 1 t) None) None
+unfoldable pub alone_at : List ℕ → ℕ → Result Order Malformed
+alone_at s at =
+    on_figure (call_at s at tick_word) (λ c p. on_place (after_at s p newline) (λ t. order commands.None (eqb c 1) 1 t) (malformed (eqb c 1))) (malformed false)
 
 -- `ticks=CALL,COUNT`, else `tick=CALL,NEXT`, else `tick=CALL`. COUNT is at least 1; NEXT is a phase's number or 0
-unfoldable pub order_at : List ℕ → ℕ → Option Order
+unfoldable pub order_at : List ℕ → ℕ → Result Order Malformed
 order_at s at =
     on_two (two_at s at ticks_word 1 999999) (λ t. order commands.None t.call t.value t.next)
     (on_two (two_at s at tick_word 0 255) (λ t. order (commands.End t.value) t.call 1 t.next) (alone_at s at))

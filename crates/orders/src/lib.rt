@@ -16,6 +16,12 @@ pub struct Order {
     pub next: usize,
 }
 
+// A line that is none of these: the call of `tick=CALL`, whatever follows it; off where no such call stands there.
+#[derive(Clone, Copy)]
+pub struct Malformed {
+    pub call: bool,
+}
+
 // A call and a number after it, and the place past their line.
 #[derive(Clone, Copy)]
 pub struct Two {
@@ -51,11 +57,11 @@ fn two_numbers(s: &[u8], at: usize, word: &[u8], least: u32, most: u32) -> Optio
 }
 
 // The line at a place, if it is one of these.
-pub fn read(s: &[u8], at: usize) -> Option<Order>
+pub fn read(s: &[u8], at: usize) -> Result<Order, Malformed>
     ensures { result ≡ order_at s.now at }
 {
     if let Some(many) = two_numbers(s, at, b"ticks=", 1, 999999) {
-        return Some(Order {
+        return Ok(Order {
             command: Command::None,
             call: many.call,
             count: many.value,
@@ -63,18 +69,23 @@ pub fn read(s: &[u8], at: usize) -> Option<Order>
         });
     }
     if let Some(one) = two_numbers(s, at, b"tick=", 0, 255) {
-        return Some(Order {
+        return Ok(Order {
             command: Command::End(one.value),
             call: one.call,
             count: 1,
             next: one.next,
         });
     }
-    let call = number(s, at, b"tick=", 0, 1)?;
-    let next = words::after(s, call.next, b"\n")?;
-    Some(Order {
+    let Some(alone) = number(s, at, b"tick=", 0, 1) else {
+        return Err(Malformed { call: false });
+    };
+    let call = alone.value == 1;
+    let Some(next) = words::after(s, alone.next, b"\n") else {
+        return Err(Malformed { call });
+    };
+    Ok(Order {
         command: Command::None,
-        call: call.value == 1,
+        call,
         count: 1,
         next,
     })

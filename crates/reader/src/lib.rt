@@ -1,10 +1,11 @@
 // Reads a site sheet from its text.
 #![tactic(auto)]
 
-ghost use Rattle.std.specs.Prelude.{◌≡◌, ◌<◌, true, false, set};
+ghost use Rattle.std.specs.Prelude.{◌≡◌, ◌<◌, true, false, set, Err};
+ghost use Rattle.sheet.specs.Zero.{zero_sheet};
 ghost use Rattle.units.specs.Numbers.{pick};
 ghost use Rattle.rows.specs.Table.{row_count, place_of};
-ghost use Rattle.text.specs.Read.{begins, passed, stands_for, filled, lines_from, replied, read_by, may_lack, read_of, older_of};
+ghost use Rattle.text.specs.Read.{begins, passed, stands_for, filled, lines_from, reply, replied, read_by, may_lack, read_of, older_of};
 
 use rows::{Absent, NUMBERS, ROWS};
 use sheet::{Answer, Refusal, Refused, Sheet};
@@ -69,14 +70,18 @@ fn lines(s: &[u8], older: bool, v: &mut [u32; NUMBERS]) -> Answer
     let mut number = 1;
     for row in 0..ROWS {
         if !passed(s, older, at, row, v) {
-            at = line_reader::judged(s, at, row, number, v)?;
+            match line_reader::judged(s, at, row, number, v) {
+                Ok(next) => at = next,
+                Err(faulty) => return Err(faulty.refused),
+            }
             number += 1;
         }
     }
     answers::refuse_unless(at == s.len(), Refusal::Malformed, number)
 }
 
-// Refusals 1 to 6 line by line, then 7 to 10 and 12 on the whole.
+// Refusals 1 to 6 line by line, then 7 to 10 and 12 on the whole. Not inlined, since its room would be made for a text that is none too.
+#[inline(never)]
 fn begun(text: &[u8], older: bool) -> Result<Sheet, Refused>
     ensures { replied result ≡ read_by (may_lack older) text.now }
 {
@@ -87,32 +92,33 @@ fn begun(text: &[u8], older: bool) -> Result<Sheet, Refused>
     Ok(sheet)
 }
 
+// A refusal comes with the zero sheet.
+#[tactic(auto, unfolding(text::specs::Read::reply, units::specs::Numbers::pick))]
+fn unread(refused: Refused) -> Reading
+    ensures { result ≡ reply (Err refused) zero_sheet }
+{
+    Reading {
+        answer: Err(refused),
+        sheet: zeros::zero_sheet(),
+    }
+}
+
 // A text that does not begin with the first key is refused before any room is made for numbers: the first line may not be absent.
-fn sheet_in(text: &[u8], older: bool) -> Result<Sheet, Refused>
-    ensures { replied result ≡ read_by (may_lack older) text.now }
+fn reading(text: &[u8], older: bool) -> Reading
+    ensures { result ≡ read_by (may_lack older) text.now }
 {
     if words::after(text, 0, b"issue").is_none() {
-        return Err(Refused {
+        return unread(Refused {
             refusal: Refusal::Malformed,
             line: 1,
         });
     }
-    begun(text, older)
-}
-
-// A refusal comes with the zero sheet.
-fn reading(text: &[u8], older: bool) -> Reading
-    ensures { result ≡ read_by (may_lack older) text.now }
-{
-    match sheet_in(text, older) {
+    match begun(text, older) {
         Ok(sheet) => Reading {
             answer: Ok(()),
             sheet,
         },
-        Err(refused) => Reading {
-            answer: Err(refused),
-            sheet: zeros::zero_sheet(),
-        },
+        Err(refused) => unread(refused),
     }
 }
 

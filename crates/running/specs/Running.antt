@@ -1,6 +1,6 @@
 -- A running unit: a unit with what its sheet says to the sequence worked out once. Each definition is of any value of it; that one made from a unit
 -- gives what the unit gives is promised in Promises.
-use Rattle.std.specs.Prelude.{ℕ, Bool, List, [], ◌∷◌, Option, Some, None}
+use Rattle.std.specs.Prelude.{ℕ, Bool, List, [], ◌∷◌, Result, Ok, Err}
 use Rattle.units.specs.Numbers.{pick}
 use Rattle.sheet.specs.Refusals.{refused, unless}
 use Rattle.sheet.specs.declared.Refusal.TheVariants.{UnitUnfit, CommandNotAllowed}
@@ -18,9 +18,9 @@ use Rattle.unit.specs.Runs.{Event, tick, load, answer_to}
 use Rattle.running.specs.declared.Answered.{Answered}
 use Rattle.running.specs.declared.Running.{Running}
 
--- made from a unit, by one check of it: the lengths of its sheet where it fits, else none
-abbrev pub lengths_by : Bool → Sheet → Option Lengths
-lengths_by fits s = pick fits (Some (lengths_of s)) None
+-- made from a unit, by one check of it: the lengths of its sheet, as a refusal's where it does not fit
+abbrev pub lengths_by : Bool → Sheet → Result Lengths Lengths
+lengths_by fits s = pick fits (Ok (lengths_of s)) (Err (lengths_of s))
 
 abbrev pub running_of : Unit → Running
 running_of u = record { sheet = u.sheet; lengths = lengths_by (unit.fits u) u.sheet; now = unit.now_of u }
@@ -43,17 +43,17 @@ onward r now = record { sheet = r.sheet; lengths = r.lengths; now = now }
 abbrev pub answered : Running → Ticked → Answered
 answered r k = record { running = onward r k.now; answer = unless k.allowed CommandNotAllowed 0 }
 
-unfoldable pub tick_by : Option Lengths → Running → Command → Bool → Answered
-tick_by (Some t) r c call = answered r (ticked t r.sheet r.now c call)
-tick_by None r c call = record { running = r; answer = refused UnitUnfit 0 }
+unfoldable pub tick_by : Result Lengths Lengths → Running → Command → Bool → Answered
+tick_by (Ok t) r c call = answered r (ticked t r.sheet r.now c call)
+tick_by (Err t) r c call = record { running = r; answer = refused UnitUnfit 0 }
 
 abbrev pub tick_of : Running → Command → Bool → Answered
 tick_of r c call = tick_by r.lengths r c call
 
 -- that many ticks without a command
-unfoldable pub pass_by : Option Lengths → Running → Bool → ℕ → Running
-pass_by (Some t) r call n = onward r (passing t r.sheet call n r.now)
-pass_by None r call n = r
+unfoldable pub pass_by : Result Lengths Lengths → Running → Bool → ℕ → Running
+pass_by (Ok t) r call n = onward r (passing t r.sheet call n r.now)
+pass_by (Err t) r call n = r
 
 abbrev pub pass_of : Running → Bool → ℕ → Running
 pass_of r call n = pass_by r.lengths r call n

@@ -6,11 +6,11 @@ use flow::Now;
 use sheet::{Answer, Sheet};
 use stage::Lengths;
 
-// What it shows and counts, over its sheet and the lengths that it goes by: none where it does not fit.
+// What it shows and counts, over its sheet and the lengths that its sheet gives: Ok where it fits and goes by them, Err where it does not.
 #[derive(Clone, Copy)]
 pub struct Running {
     pub sheet: Sheet,
-    pub lengths: Option<Lengths>,
+    pub lengths: Result<Lengths, Lengths>,
     pub now: Now,
 }
 

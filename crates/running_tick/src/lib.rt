@@ -28,11 +28,11 @@ pub fn tick(running: Running, command: Command, call: bool) -> Answered
     ensures { result ≡ tick_of running command call }
 {
     match running.lengths {
-        Some(t) => answered(
+        Ok(t) => answered(
             running,
             steady::tick(t, running.sheet, running.now, command, call),
         ),
-        None => Answered {
+        Err(_) => Answered {
             running, // unchanged
             answer: Err(Refused {
                 refusal: Refusal::UnitUnfit,
@@ -48,10 +48,10 @@ pub fn pass(running: Running, call: bool, count: u32) -> Running
     ensures { result ≡ pass_of running call count }
 {
     match running.lengths {
-        Some(t) => Running {
+        Ok(t) => Running {
             now: passing::pass(t, running.sheet, call, count, running.now),
             ..running
         },
-        None => running, // unchanged
+        Err(_) => running, // unchanged
     }
 }

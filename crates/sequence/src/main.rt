@@ -29,7 +29,7 @@ fn print_tick(
 ) -> io::Result<()> {
     let was = shown::of(before.sheet, before.now.stage);
     let is = shown::of(after.sheet, after.now.stage);
-    if was == is && answer.is_ok() {
+    if shown::unchanged(was, is) && answer.is_ok() {
         return Ok(());
     }
     prints::state(rt, tick, after, answer)
@@ -68,7 +68,7 @@ fn event<'a>(rt: &impl Print, run: Run<'a>) -> io::Result<Run<'a>> {
             line: line.wrapping_add(done.lines),
         });
     }
-    if let Some(order) = orders::read(run.left, 0)
+    if let Ok(order) = orders::read(run.left, 0)
         && let Some(left) = run.left.get(order.next..)
     {
         return Ok(Run {

@@ -1,6 +1,6 @@
 -- What a unit shows, as the bench prints it: "the tick, the stage, the phase, its walker". The names are those that it prints.
-use Rattle.std.specs.Prelude.{ℕ, List, eqb, ltb, ◌≡◌, codes}
-use Rattle.units.specs.Numbers.{pick}
+use Rattle.std.specs.Prelude.{ℕ, List, Bool, eqb, ltb, ◌≡◌, codes}
+use Rattle.units.specs.Numbers.{pick, both}
 use Rattle.sheet.specs.declared.Phase.{Phase}
 use Rattle.sheet.specs.declared.Sheet.{Sheet}
 use Rattle.phase.specs.declared.Light.{Light}
@@ -39,15 +39,18 @@ on_foot_name Nobody = codes "-"
 on_foot_name Walk = codes "walk"
 on_foot_name Clearance = codes "clearance"
 
-abbrev pub shows : Aspect → ℕ → OnFoot → Shown
+abbrev pub Named : Type 0
+Named = Shown Aspect OnFoot
+
+abbrev pub shows : Aspect → ℕ → OnFoot → Named
 shows st n w = record { stage = st; phase = n; walker = w }
 
 -- a stage without a phase: "with 0 and `-`"
-abbrev pub plain : Aspect → Shown
+abbrev pub plain : Aspect → Named
 plain st = shows st 0 Nobody
 
 -- "It lasts line 51 ticks, then track yellow and red": these are shown as those of track clearance
-unfoldable pub placed : Aspect → Aspect → Place → Shown
+unfoldable pub placed : Aspect → Aspect → Place → Named
 placed n t Normal = plain n
 placed n t Train = plain t
 
@@ -70,10 +73,10 @@ on_foot p (walks.Clearance k) = pick (ltb k p.clearance) Clearance Nobody
 unfoldable pub walker_of : Phase → Walker → OnFoot
 walker_of p w = pick (eqb p.mode 0) Nobody (on_foot p w)
 
-abbrev pub phase_shows : Sheet → Place → ℕ → Light → Walker → Shown
+abbrev pub phase_shows : Sheet → Place → ℕ → Light → Walker → Named
 phase_shows s p n l w = shows (lit_in l p) n (walker_of (phase_of s n) w)
 
-unfoldable pub shown_of : Sheet → Stage → Shown
+unfoldable pub shown_of : Sheet → Stage → Named
 shown_of s stage.TrackGreen = plain TrackGreen
 shown_of s (stage.TrackYellow p z k) = placed TrackYellow ClearanceYellow p
 shown_of s (stage.TrackRed p z k) = placed TrackRed ClearanceRed p
@@ -83,5 +86,9 @@ shown_of s (stage.ClearanceGreen k) = plain ClearanceGreen
 shown_of s stage.AllRed = plain Dwell
 
 -- "only if what it shows changed"
-abbrev pub same_shown : Shown → Shown → Type 0
-same_shown a b = (a.stage ≡ b.stage) × ((a.phase ≡ b.phase) × (a.walker ≡ b.walker))
+-- by the stages' own test and the walkers'
+unfoldable pub same_shown : {S : Type 0} → {W : Type 0} → (S → S → Bool) → (W → W → Bool) → Shown S W → Shown S W → Bool
+same_shown stages walkers a b = both (stages a.stage b.stage) (both (eqb a.phase b.phase) (walkers a.walker b.walker))
+
+abbrev pub same_named : Named → Named → Type 0
+same_named a b = (a.stage ≡ b.stage) × ((a.phase ≡ b.phase) × (a.walker ≡ b.walker))

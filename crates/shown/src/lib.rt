@@ -2,7 +2,7 @@
 #![tactic(auto)]
 
 ghost use Rattle.std.specs.Prelude.{◌≡◌, ◌↔◌, IsTrue, Some};
-ghost use Rattle.shown.specs.Shown.{plain, placed, lit_in, walker_of, phase_shows, shown_of, same_shown, aspect_name, on_foot_name};
+ghost use Rattle.shown.specs.Shown.{plain, placed, lit_in, walker_of, phase_shows, shown_of, same_shown, same_named, aspect_name, on_foot_name};
 
 use phase::{Light, Walker};
 use sheet::{Phase, Sheet};
@@ -74,14 +74,17 @@ impl fmt::Display for OnFoot {
 
 // The phase is 0 for none.
 #[derive(Clone, Copy, PartialEq, Eq)]
-pub struct Shown {
-    pub stage: Aspect,
+pub struct Shown<S, W> {
+    pub stage: S,
     pub phase: u32,
-    pub walker: OnFoot,
+    pub walker: W,
 }
 
+// What the bench shows.
+pub type Named = Shown<Aspect, OnFoot>;
+
 // A stage without a phase.
-fn plain(stage: Aspect) -> Shown
+fn plain(stage: Aspect) -> Named
     ensures { result ≡ plain stage }
 {
     Shown {
@@ -93,7 +96,7 @@ fn plain(stage: Aspect) -> Shown
 
 // The track's yellow and red are also those that follow track clearance green.
 #[tactic(auto, unfolding(crate::specs::Shown::placed))]
-fn placed(place: Place, normal: Aspect, train: Aspect) -> Shown
+fn placed(place: Place, normal: Aspect, train: Aspect) -> Named
     ensures { result ≡ placed normal train place }
 {
     match place {
@@ -132,7 +135,7 @@ fn walker_of(p: Phase, walker: Walker) -> OnFoot
     }
 }
 
-fn phase_shows(sheet: Sheet, place: Place, phase: u32, light: Light, walker: Walker) -> Shown
+fn phase_shows(sheet: Sheet, place: Place, phase: u32, light: Light, walker: Walker) -> Named
     ensures { result ≡ phase_shows sheet place phase light walker }
 {
     Shown {
@@ -144,7 +147,7 @@ fn phase_shows(sheet: Sheet, place: Place, phase: u32, light: Light, walker: Wal
 
 // What a unit with this sheet shows in this stage.
 #[tactic(auto, unfolding(crate::specs::Shown::shown_of))]
-pub fn of(sheet: Sheet, stage: Stage) -> Shown
+pub fn of(sheet: Sheet, stage: Stage) -> Named
     ensures { result ≡ shown_of sheet stage }
 {
     match stage {
@@ -173,9 +176,18 @@ pub fn of(sheet: Sheet, stage: Stage) -> Shown
     }
 }
 
-// Nothing that is shown differs.
-pub fn same(a: Shown, b: Shown) -> bool
-    ensures { IsTrue result ↔ same_shown a b }
+// Nothing that is shown differs, whatever names or numbers stand for stages and walkers.
+#[tactic(auto, unfolding(crate::specs::Shown::same_shown, units::specs::Numbers::both, units::specs::Numbers::pick))]
+pub fn same<S: Copy + PartialEq, W: Copy + PartialEq>(a: Shown<S, W>, b: Shown<S, W>) -> bool
+    ensures { result ≡ same_shown S.eq W.eq a b }
 {
     a == b
+}
+
+// The bench's names are the same where they are one.
+#[tactic(auto, unfolding(crate::specs::Shown::same_shown, units::specs::Numbers::both, units::specs::Numbers::pick))]
+pub fn unchanged(was: Named, is: Named) -> bool
+    ensures { IsTrue result ↔ same_named was is }
+{
+    same(was, is)
 }

@@ -21,7 +21,9 @@ pub fn take_over(unit: Unit) -> Running
     let now = Now { stage, count };
     Running {
         sheet,
-        lengths: fitting::fits(m, sheet, now).then_some(m.lengths),
+        lengths: fitting::fits(m, sheet, now)
+            .then_some(m.lengths)
+            .ok_or(m.lengths),
         now,
     }
 }

@@ -1,11 +1,11 @@
--- What the table says of each row's line: a list has room for one number and its count, and where a line has one number there is no rule but its range.
--- Assumes nothing.
+-- What the table says of each row's line: its key has three letters or more, where it has more numbers than one they are plain or a list, a list has room
+-- for one number and its count, and where a line has one number there is no rule but its range. Assumes nothing.
 use Prim.Native.Nat.{ℕ, ◌≤◌, ◌<◌}
-use mathlib.Core.Path.{◌≡◌, refl, sym, ◌∙◌}
+use mathlib.Core.Path.{◌≡◌, refl, ap, sym, ◌∙◌}
 use mathlib.Core.Bool.{Bool, true, false}
 use mathlib.Core.List.{List, [], ◌∷◌}
 use native.Mathlib.Omega.{arith}
-use lib.Dec.{T, eqb}
+use lib.Dec.{T, eqb, leb, ltb, leb→le, lt→ltb}
 use lib.ListN.{length, get_or}
 use borrow.Author.Tests.{le-leb, lt-leb}
 use Rattle.units.specs.Numbers.{pick}
@@ -15,9 +15,38 @@ use Rattle.sheet.specs.Refusals.{Answer, refused, or_else, unless}
 use Rattle.std.specs.Prelude.{Ok, Err}
 use Rattle.sheet.specs.declared.Refusal.TheVariants.{OutOfRange}
 use Rattle.sheet.proofs.Answers.{holds, fails}
-use Rattle.rows.specs.Table.{is_list, Range, ◌to◌, row_count, phase_kind, point_kind, kind_of, form_of, ranges_of, range_of, width_of, place_of, used_ranges, in_range, in_ranges}
+use Rattle.rows.specs.declared.table.Form.{Form}
+use Rattle.rows.specs.declared.table.Form.TheVariants.{Plain, Worded, Signed, Listed}
+use Rattle.rows.specs.declared.table.Key.{Key}
+use Rattle.rows.specs.Facts.{facts_of}
+use Rattle.rows.specs.Table.{plain, key_of, is_plain, is_list, Range, ◌to◌, row_count, phase_kind, point_kind, kind_of, form_of, ranges_of, range_of, width_of, place_of, used_ranges, in_range, in_ranges}
 use Rattle.rows.proofs.Tables.{list_row, list_true}
 use Rattle.faults.specs.Lines.{rule_fault, row_fault}
+
+pub key_long : (row : ℕ) → row < row_count → 3 ≤ length (key_of row)
+unfolding key_of kind_of
+key_long row h = leb→le 3 (length (key_of row)) (at (λ (r : ℕ). leb 3 (length (key_of r))) row_count tt row h)
+
+pub facts_long : (row : ℕ) (k : Key) → k ≡ facts_of row → row < row_count → 3 ≤ k.length
+unfolding facts_of
+facts_long row k e h = let l : k.length ≡ length (key_of row) = ap (λ (x : Key). x.length) e in omega (arith, key_long row h)
+
+abbrev either : Bool → Bool → Bool
+either a b = pick a true b
+
+plain_true : (f : Form) → T (is_plain f) → f ≡ plain
+plain_true Plain t = refl
+plain_true Worded t = absurd t
+plain_true Signed t = absurd t
+plain_true Listed t = absurd t
+
+pub wide_plain : (row : ℕ) → row < row_count → 1 < width_of row → is_list (form_of row) ≡ false → form_of row ≡ plain
+unfolding form_of width_of ranges_of kind_of pick
+wide_plain row h w n =
+    let t = given_then (ltb 1 (width_of row)) (either (is_list (form_of row)) (is_plain (form_of row)))
+    (at (λ (r : ℕ). given (ltb 1 (width_of r)) (either (is_list (form_of r)) (is_plain (form_of r)))) row_count tt row h)
+    (lt→ltb 1 (width_of row) w) in
+    plain_true (form_of row) (rw n at t)
 
 pub list_wide : (row : ℕ) → is_list (form_of row) ≡ true → 2 ≤ width_of row
 list_wide row e = omega (arith, (list_row row (list_true (form_of row) e)).width)

@@ -13,6 +13,7 @@ use Rattle.numbers.specs.Flat.{sheet_of}
 use Rattle.faults.specs.Lines.{row_fault}
 use Rattle.faults.specs.Whole.{whole_fault}
 use Rattle.figures.specs.Figures.{on_place, after_at}
+use Rattle.text.specs.declared.Faulty.{Faulty}
 use Rattle.text.specs.declared.Reading.{Reading}
 use Rattle.text.specs.Line.{Taken, line_at}
 
@@ -29,15 +30,15 @@ step answer next v = record { answer = answer; next = next; numbers = v }
 abbrev pub malformed : ℕ → List ℕ → Step
 malformed line v = step (refused Malformed line) 0 v
 
--- the same by the place past what was read, which there is where nothing is refused
-abbrev pub reached : Result ℕ Refused → List ℕ → Step
+-- the same by the place past what was read, which there is beside a refusal too
+abbrev pub reached : Result ℕ Faulty → List ℕ → Step
 reached (Ok p) v = step (Ok tt) p v
-reached (Err e) v = step (Err e) 0 v
+reached (Err f) v = step (Err f.refused) f.next v
 
 -- the place past a line that has a fault or none
-abbrev pub place_past : Answer → ℕ → Result ℕ Refused
+abbrev pub place_past : Answer → ℕ → Result ℕ Faulty
 place_past (Ok _) p = Ok p
-place_past (Err e) p = Err e
+place_past (Err e) p = Err (record { refused = e; next = p })
 
 -- the faults 2 to 6 of a well-made line
 abbrev pub judged : Taken → ℕ → ℕ → Step

@@ -8,8 +8,12 @@ ghost use Rattle.figures.specs.Figures.{after_at};
 pub fn after(s: &[u8], at: usize, w: &[u8]) -> Option<usize>
     ensures { result ≡ after_at s.now at w.now }
 {
-    if s[at.min(s.len())..].starts_with(w) {
-        return Some(at + w.len());
+    let mut next = at;
+    for letter in w {
+        match s.get(next) {
+            Some(byte) if *byte == *letter => next += 1,
+            _ => return None,
+        }
     }
-    None
+    Some(next)
 }

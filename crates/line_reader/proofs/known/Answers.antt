@@ -3,7 +3,6 @@ use Prim.Native.Nat.{◌≤◌}
 use mathlib.Core.Path.{◌≡◌, refl, sym, ◌∙◌, ap}
 use mathlib.Core.Bool.{true}
 use native.Mathlib.Omega.{arith}
-use Rattle.std.proofs.lemmas.Result.{err_from_is_err_and}
 use Rattle.units.specs.Numbers.{pick}
 use Rattle.rows.specs.declared.table.Form.{Form}
 use Rattle.rows.specs.declared.table.Key.{Key}
@@ -39,19 +38,18 @@ returns-in_default c =
     let line = c.line.ensures ∙ (λ i. on_place (after_at c.args.s.now c.args.at (key i)) (λ p. ended c.args.s.now (values_at c.args.s.now (form i) (c.place-place.ensures i) (c.width-n.ensures i) p c.args.v.now)) (bad c.args.v.now)) in
     rw (← line, c.in_default.is, c.malformed.ensures) refl
 
-pub returns-in_err-fault : goal.returns-in_err-fault
+pub returns-in-Err : goal.returns-in-Err
 unfolding judged_at line_at pick
-returns-in_err-fault c =
+returns-in-Err c =
     let key = facts_key c.args.row c.facts-facts.result c.facts-facts.ensures in
     let form = facts_form c.args.row c.facts-facts.result c.facts-facts.ensures in
     let line = c.line.ensures ∙ (λ i. on_place (after_at c.args.s.now c.args.at (key i)) (λ p. ended c.args.s.now (values_at c.args.s.now (form i) (c.place-place.ensures i) (c.width-n.ensures i) p c.args.v.now)) (bad c.args.v.now)) in
-    let p = err_from_is_err_and c.from_residual.result c.from_residual.ensures.1 in
-    rw (← line, c.in-Some.is, ← c.fault.ensures, c.in_err-fault.was, p.1, p.2) refl
+    rw (← line, c.in-Some.is, ← c.fault.ensures, c.in-Err.is) refl
 
-pub returns : goal.returns
+pub returns-in-Ok : goal.returns-in-Ok
 unfolding judged_at line_at pick
-returns c =
+returns-in-Ok c =
     let key = facts_key c.args.row c.facts-facts.result c.facts-facts.ensures in
     let form = facts_form c.args.row c.facts-facts.result c.facts-facts.ensures in
     let line = c.line.ensures ∙ (λ i. on_place (after_at c.args.s.now c.args.at (key i)) (λ p. ended c.args.s.now (values_at c.args.s.now (form i) (c.place-place.ensures i) (c.width-n.ensures i) p c.args.v.now)) (bad c.args.v.now)) in
-    rw (← line, c.in-Some.is, ← c.fault.ensures, c.in_ok-fault.was) refl
+    rw (← line, c.in-Some.is, ← c.fault.ensures, c.in-Ok.is) refl

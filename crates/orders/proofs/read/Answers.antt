@@ -13,17 +13,17 @@ unfolding order_at
 returns-in-Some-two_numbers c =
     rw (sym c.two_numbers.ensures ∙ c.in_default.is, sym c.two_numbers-2.ensures ∙ c.in-Some-two_numbers.is) refl
 
-pub returns-in_err-call : goal.returns-in_err-call
+pub returns-in_default-number : goal.returns-in_default-number
 unfolding order_at alone_at
-returns-in_err-call c =
-    rw (c.from_residual.ensures, sym c.two_numbers.ensures ∙ c.in_default.is, sym c.two_numbers-2.ensures ∙ c.in_default-two_numbers.is, sym c.number.ensures ∙ c.in_err-call.was) refl
+returns-in_default-number c =
+    rw (sym c.two_numbers.ensures ∙ c.in_default.is, sym c.two_numbers-2.ensures ∙ c.in_default-two_numbers.is, sym c.number.ensures ∙ c.in_default-number.is) refl
 
-pub returns-in_err-next : goal.returns-in_err-next
+pub returns-in_default-after : goal.returns-in_default-after
 unfolding order_at alone_at
-returns-in_err-next c =
-    rw (c.from_residual-in_err-next.ensures, sym c.two_numbers.ensures ∙ c.in_default.is, sym c.two_numbers-2.ensures ∙ c.in_default-two_numbers.is, sym c.number.ensures ∙ c.in_ok-call.was, sym c.after.ensures ∙ c.in_err-next.was) refl
+returns-in_default-after c =
+    rw (sym c.two_numbers.ensures ∙ c.in_default.is, sym c.two_numbers-2.ensures ∙ c.in_default-two_numbers.is, sym c.number.ensures ∙ c.in-Some-number.is, sym c.after.ensures ∙ c.in_default-after.is) refl
 
 pub returns : goal.returns
 unfolding order_at alone_at
 returns c =
-    rw (sym c.two_numbers.ensures ∙ c.in_default.is, sym c.two_numbers-2.ensures ∙ c.in_default-two_numbers.is, sym c.number.ensures ∙ c.in_ok-call.was, sym c.after.ensures ∙ c.in_ok-next.was) refl
+    rw (sym c.two_numbers.ensures ∙ c.in_default.is, sym c.two_numbers-2.ensures ∙ c.in_default-two_numbers.is, sym c.number.ensures ∙ c.in-Some-number.is, sym c.after.ensures ∙ c.in-Some-after.is) refl

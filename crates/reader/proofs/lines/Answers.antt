@@ -4,20 +4,19 @@ use mathlib.Core.Path.{◌≡◌, refl, sym, ap, ◌∙◌}
 use mathlib.Core.List.{List}
 use native.Mathlib.Omega.{arith}
 use Rattle.std.specs.Prelude.{Ok, Err}
-use Rattle.std.proofs.lemmas.Result.{err_from_is_err_and}
 use Rattle.units.proofs.Steps.{pick_yes, pick_not}
 use Rattle.rows.specs.Table.{row_count}
 use Rattle.text.specs.Read.{Step, step, judged_at, lines_from, may_lack}
 use Rattle.text.proofs.Cases.{lines_end, lines_passed, lines_bad, lines_step, end_answer, end_numbers}
-use Rattle.reader.proofs.lines.Goals.{then-not-passed+in_ok-at, else-not-passed}
+use Rattle.reader.proofs.lines.Goals.{then-not-passed+in-Ok, else-not-passed}
 use Rattle.reader.proofs.lines.Goals as goal
 
 pub loop-row-init : goal.loop-row-init
 loop-row-init c =
     (omega arith, refl)
 
-pub returns-in_err-at : goal.returns-in_err-at
-returns-in_err-at c =
+pub returns-in-Err : goal.returns-in-Err
+returns-in-Err c =
     let s = c.args.s.now in
     let may = may_lack c.args.older in
     let row = c.loop-row.row in
@@ -26,11 +25,10 @@ returns-in_err-at c =
     let v = c.loop-row.v in
     let over = sym c.passed.ensures.0 ∙ c.if-not-passed.true in
     let same = c.passed.ensures.1 ∙ sym (pick_not _ _ _ _ c.if-not-passed.true refl) in
-    let t = step (Err c.in_err-at.field-0.0) 0 c.judged.new.v in
-    let taken : t ≡ judged_at s at row number v = (rw c.in_err-at.was at c.judged.ensures) ∙ ap (λ (u : List ℕ). judged_at s at row number u) same in
+    let t = step (Err c.in-Err.faulty.refused) c.in-Err.faulty.next c.judged.new.v in
+    let taken : t ≡ judged_at s at row number v = (rw c.in-Err.is at c.judged.ensures) ∙ ap (λ (u : List ℕ). judged_at s at row number u) same in
     let all = sym (lines_bad may s row number at v t taken c.loop-row-test.true over refl) ∙ c.loop-row.invariant.1 in
-    let p = err_from_is_err_and c.from_residual.result c.from_residual.ensures.1 in
-    (rw (p.1, p.2) (ap (λ (x : Step). x.answer) all), ap (λ (x : Step). x.numbers) all)
+    (ap (λ (x : Step). x.answer) all, ap (λ (x : Step). x.numbers) all)
 
 pub loop-row-preserved : goal.loop-row-preserved
 loop-row-preserved c =
@@ -41,11 +39,11 @@ loop-row-preserved c =
     let at = c.loop-row.at in
     let v = c.loop-row.v in
     elim c.if-not-passed.branch [
-      | then-not-passed+in_ok-at w ↦
+      | then-not-passed+in-Ok w ↦
           let over = sym c.passed.ensures.0 ∙ w.if-not-passed.true in
           let same = c.passed.ensures.1 ∙ sym (pick_not _ _ _ _ w.if-not-passed.true refl) in
-          let t = step (Ok tt) w.in_ok-at.at w.judged.new.v in
-          let taken : t ≡ judged_at s at row number v = (rw w.in_ok-at.was at w.judged.ensures) ∙ ap (λ (u : List ℕ). judged_at s at row number u) same in
+          let t = step (Ok tt) w.in-Ok.next w.judged.new.v in
+          let taken : t ≡ judged_at s at row number v = (rw w.in-Ok.is at w.judged.ensures) ∙ ap (λ (u : List ℕ). judged_at s at row number u) same in
           rw (w.v-is, w.at-is, w.number-is) (omega arith, sym (lines_step may s row number at v t taken c.loop-row-test.true over refl) ∙ c.loop-row.invariant.1)
       | else-not-passed w ↦
           let over = sym c.passed.ensures.0 ∙ w.if-not-passed.false in
