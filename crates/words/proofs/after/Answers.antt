@@ -7,7 +7,7 @@ use Rattle.words.proofs.after.Goals as goal
 pub returns-in_default : goal.returns-in_default
 returns-in_default c =
     let l = c.in-Some.ensures.lookup in
-    rw (← c.loop-letter.invariant.1, after_ne c.args.s.now c.args.w.now c.loop-letter.letter-index c.loop-letter.next c.loop-letter-test.true (omega (arith, l)) (λ same. c.if-byte-letter.false (l.3.1 0 ∙ same))) refl
+    rw (← c.loop-letter.invariant.1, after_ne c.args.s.now c.args.w.now c.loop-letter.letter-index c.loop-letter.next c.loop-letter-test.true (omega (arith, l)) (λ same. omega (arith, l.3.1 0, same))) refl
 
 pub returns-in_default-2 : goal.returns-in_default-2
 returns-in_default-2 c =
